@@ -12,6 +12,7 @@ use Rattle.polygons.specs.declared.lines.Rule.TheVariants.{OddCounts}
 use Rattle.areas.specs.declared.area.Area.{Area}
 use Rattle.areas.specs.declared.among.Areas.{Areas}
 use Rattle.areas.specs.Cuts.{count_to}
+use Rattle.areas.specs.Places.{IsPlace}
 use Rattle.areas.specs.Shapes.{AreApart, all_counted, areas_between, areas_from, counted, edge_count, first_with}
 use Rattle.areas.specs.Views.{areas_in}
 
@@ -228,13 +229,26 @@ module _ (before : ℕ) (more : List Area) (h : AreApart before more) (n i : ℕ
       let e = has_edges k i more h within in
       omega (arith, f, e, low)
 
-  pub end_found : i < length more → IsBinarySearchResult (λ a. nat_cmp a.end (n + before)) more (Ok i)
+  pub end_placed : i < length more → (get_or more i nothing).end ≡ n + before
       → first_with (λ a. a.end) n (all_counted before more) ≡ Some (counted before (get_or more i nothing))
-  end_found = found_by end_of before (λ a. refl) ends_below ends_far more h n i
+  end_placed within here = at_place end_of before (λ a. refl) ends_below ends_far n before i more h (omega arith) within here
 
-  pub end_absent : i ≤ length more → IsBinarySearchResult (λ a. nat_cmp a.end (n + before)) more (Err i)
+  pub end_unplaced : IsPlace (n + before) more i → (i < length more → (get_or more i nothing).end ≢ n + before)
       → first_with (λ a. a.end) n (all_counted before more) ≡ None
-  end_absent = absent_by end_of before (λ a. refl) ends_below ends_far more h n i
+  end_unplaced place other = nowhere end_of before (λ a. refl) ends_below ends_far n more (λ j inside same.
+      let high = ends_far before j more h (omega arith) inside in
+      let here : (get_or more j nothing).end ≡ n + before = omega (arith, same, high) in
+      elim (cases_lt j i) [
+        | inl less ↦ (let lower = place.before j less in omega (arith, lower, here))
+        | inr beyond ↦ elim (cases_lt i j) [
+          | inl past ↦ (
+              let higher = place.after i (omega arith) (omega (arith, past, inside)) in
+              let later = ends_before before i j more h past inside in
+              let edge = has_edges before j more h inside in
+              omega (arith, higher, later, edge, here))
+          | inr at ↦ (let e : j ≡ i = omega (arith, beyond, at) in absurd (other (omega (arith, inside, e)) (rw e at here)))
+        ]
+      ])
 
   pub first_found : i < length more → IsBinarySearchResult (λ a. nat_cmp a.first (n + before)) more (Ok i)
       → first_with (λ a. a.first) n (all_counted before more) ≡ Some (counted before (get_or more i nothing))
@@ -243,3 +257,46 @@ module _ (before : ℕ) (more : List Area) (h : AreApart before more) (n i : ℕ
   pub first_absent : i ≤ length more → IsBinarySearchResult (λ a. nat_cmp a.first (n + before)) more (Err i)
       → first_with (λ a. a.first) n (all_counted before more) ≡ None
   first_absent = absent_by first_of before (λ a. refl) begins_below begins_far more h n i
+
+-- where areas end by which number
+pub place_from : (k number at : ℕ) (more : List Area) → AreApart k more → at ≤ length more
+    → ((i : ℕ) → i + 1 ≡ at → (get_or more i nothing).end < number) → (at < length more → number ≤ (get_or more at nothing).end)
+    → IsPlace number more at
+place_from k number at more h within low high = record {
+  within = within;
+  before = λ i less. elim (cases_lt (i + 1) at) [
+    | inl l ↦ (
+        let e : at - 1 + 1 ≡ at = omega (arith, less) in
+        let last = low (at - 1) e in
+        let order = ends_before k i (at - 1) more h (omega (arith, l)) (omega (arith, within, less)) in
+        let edge = has_edges k (at - 1) more h (omega (arith, within, less)) in
+        omega (arith, last, order, edge))
+    | inr l ↦ low i (omega (arith, l, less))
+  ];
+  after = λ i from inside. elim (cases_lt at i) [
+    | inl l ↦ (
+        let first = high (omega (arith, l, inside)) in
+        let order = ends_before k at i more h l inside in
+        let edge = has_edges k i more h inside in
+        omega (arith, first, order, edge))
+    | inr l ↦ (let e : i ≡ at = omega (arith, from, l) in let first = high (omega (arith, e, inside)) in rw e first)
+  ];
+}
+
+pub place_found : (k number at : ℕ) (more : List Area) → AreApart k more → at < length more
+    → IsBinarySearchResult (λ a. nat_cmp a.end number) more (Ok at) → IsPlace number more at
+place_found k number at more h within equal =
+    let here : (get_or more at nothing).end ≡ number = ranked _ number _ (sym (equal nothing)) in
+    place_from k number at more h (omega (arith, within))
+    (λ i e. let order = ends_before k i at more h (omega (arith, e)) within in let edge = has_edges k at more h within in omega (arith, order, edge, here))
+    (λ l. omega (arith, here))
+
+pub place_between : (before number at : ℕ) (more : List Area) → AreApart before more → at ≤ length more
+    → IsBinarySearchResult (λ a. nat_cmp a.end number) more (Err at) → IsPlace number more at
+place_between before number at more h within parted =
+    let parts = parted (comparisons_rise end_of before (λ a. refl) ends_below (ends_far before more h number at) number before more h) in
+    record {
+      within = within;
+      before = λ i less. ranked _ number _ (sym (parts.0 i nothing (omega arith) less));
+      after = λ i from inside. let higher : number < (get_or more i nothing).end = ranked _ number _ (sym (parts.1 i nothing from inside)) in omega (arith, higher);
+    }

@@ -1,5 +1,5 @@
 -- The edges of a sweep and the crossings of a row: one more, in another order, and in the row below.
-use Rattle.std.proofs.Common.{◌≡◌, ℕ, ◌+◌, ◌*◌, ◌^◌, ◌≤◌, ◌<◌, Bool, true, not, ◌&&◌, nat_le, List, [], ◌∷◌, ◌++◌, map, take, length, get_or, count_by, refl, sym, ap, ap₂, ◌∙◌, arith, ℤ, pos, nat_abs, ◌+ℤ◌, ◌-ℤ◌, ◌*ℤ◌, ◌≤ℤ◌, int_lt, inl, inr, IsPermutation}
+use Rattle.std.proofs.Common.{◌≡◌, ℕ, ◌+◌, ◌^◌, ◌≤◌, ◌<◌, Bool, not, ◌&&◌, nat_le, List, [], ◌∷◌, ◌++◌, map, take, length, get_or, count_by, refl, sym, ap, ap₂, ◌∙◌, arith, ℤ, pos, nat_abs, ◌+ℤ◌, ◌-ℤ◌, ◌*ℤ◌, ◌≤ℤ◌, int_lt, inl, inr, IsPermutation}
 use Rattle.std.specs.List.{All}
 use Rattle.std.proofs.lemmas.Bool.{cases_Bool}
 use Rattle.std.proofs.lemmas.Int.{ints}
@@ -15,8 +15,9 @@ use Rattle.areas.specs.declared.crossing.Crossing.{Crossing}
 use Rattle.areas.specs.declared.swept_edge.SweptEdge.{SweptEdge}
 use Rattle.areas.specs.Inside.{rises_past, falls_past, is_inside_area}
 use Rattle.areas.specs.Crossings.{AreCrossings, IsClear, IsCrossing, centre_of_column, is_inside_at}
-use Rattle.areas.specs.Sweeps.{AreSwept, IsEdge, IsFar, IsInRow, IsSomewhere, below, is_past_down, is_past_up, pixel_of}
-use Rattle.areas.proofs.Counts.{count_append, count_mapped, count_permuted}
+use Rattle.areas.specs.Sweeps.{AreBelow, AreNear, AreSwept, IsEdge, IsFar, IsInRow, IsSomewhere, IsWaiting, below, is_past_down, is_past_up, pixel_of}
+use Rattle.areas.proofs.Counts.{count_append, count_permuted}
+use Rattle.areas.proofs.Live.{none_falls, none_rises}
 use Rattle.areas.proofs.SweptEdges.{in_row_below}
 
 -- what was sorted, and what follows it
@@ -43,48 +44,48 @@ one_none p q xs ys y h e =
     omega (arith, b, d, e, h)
 
 module _ (r : ℕ) (low y : ℤ) where
-  near_more : (edges : List Segment) (near : List SweptEdge) (e : Segment) (n : SweptEdge) → AreSwept r edges low y near → IsEdge r y e n
-      → AreSwept r (edges ++ e ∷ []) low y (near ++ n ∷ [])
+  near_more : (edges : List Segment) (near : List SweptEdge) (e : Segment) (n : SweptEdge) → AreNear r edges low y near → IsEdge r e n
+      → AreNear r (edges ++ e ∷ []) low y (near ++ n ∷ [])
   near_more edges near e n h is = record {
-    in_row = All-append (IsInRow r y) near (n ∷ []) h.in_row (All-cons (IsInRow r y) n [] is.in_row (All-nil (IsInRow r y)));
+    waits = All-append IsWaiting near (n ∷ []) h.waits (All-cons IsWaiting n [] is.waits (All-nil IsWaiting));
     rises = λ x z a b. one_each (λ m. is_past_up r m x z) (λ s. rises_past r s x z) near edges n e (h.rises x z a b) (is.rises x z);
     falls = λ x z a b. one_each (λ m. is_past_down r m x z) (λ s. falls_past r s x z) near edges n e (h.falls x z a b) (is.falls x z);
   }
 
-  far_more : (edges : List Segment) (near : List SweptEdge) (e : Segment) → AreSwept r edges low y near → IsFar r low y e
-      → AreSwept r (edges ++ e ∷ []) low y near
+  far_more : (edges : List Segment) (near : List SweptEdge) (e : Segment) → AreNear r edges low y near → IsFar r low y e
+      → AreNear r (edges ++ e ∷ []) low y near
   far_more edges near e h is = record {
-    in_row = h.in_row;
+    waits = h.waits;
     rises = λ x z a b. one_none (λ m. is_past_up r m x z) (λ s. rises_past r s x z) near edges e (h.rises x z a b) (ap one (is.rises x z a b));
     falls = λ x z a b. one_none (λ m. is_past_down r m x z) (λ s. falls_past r s x z) near edges e (h.falls x z a b) (ap one (is.falls x z a b));
   }
 
   pub near_next : (edges : List Segment) (near : List SweptEdge) (i : ℕ) (e : Segment) (n : SweptEdge) → i < length edges → e ≡ get_or edges i e
-      → AreSwept r (take i edges) low y near → IsEdge r y e n → AreSwept r (take (i + 1) edges) low y (near ++ n ∷ [])
+      → AreNear r (take i edges) low y near → IsEdge r e n → AreNear r (take (i + 1) edges) low y (near ++ n ∷ [])
   near_next edges near i e n l is h x =
       let more = take_more edges i e l ∙ ap (λ s. take i edges ++ s ∷ []) (sym is) in
       rw more (near_more (take i edges) near e n h x)
 
   pub far_next : (edges : List Segment) (near : List SweptEdge) (i : ℕ) (e : Segment) → i < length edges → e ≡ get_or edges i e
-      → AreSwept r (take i edges) low y near → IsFar r low y e → AreSwept r (take (i + 1) edges) low y near
+      → AreNear r (take i edges) low y near → IsFar r low y e → AreNear r (take (i + 1) edges) low y near
   far_next edges near i e l is h x =
       let more = take_more edges i e l ∙ ap (λ s. take i edges ++ s ∷ []) (sym is) in
       rw more (far_more (take i edges) near e h x)
 
 -- the same edges in the row below
-same_up : (r : ℕ) (n : SweptEdge) (x z : ℤ) → is_past_up r (below n) x z ≡ is_past_up r n x z
+pub same_up : (r : ℕ) (n : SweptEdge) (x z : ℤ) → is_past_up r (below n) x z ≡ is_past_up r n x z
 same_up r n x z = elim (cases_Bool (int_lt (n.short +ℤ pos 16256 *ℤ n.rest) (pixel_of n))) [
   | inl t ↦ rw t refl
   | inr f ↦ rw f refl
 ]
 
-same_down : (r : ℕ) (n : SweptEdge) (x z : ℤ) → is_past_down r (below n) x z ≡ is_past_down r n x z
+pub same_down : (r : ℕ) (n : SweptEdge) (x z : ℤ) → is_past_down r (below n) x z ≡ is_past_down r n x z
 same_down r n x z = elim (cases_Bool (int_lt (n.short +ℤ pos 16256 *ℤ n.rest) (pixel_of n))) [
   | inl t ↦ rw t refl
   | inr f ↦ rw f refl
 ]
 
-all_below : (r : ℕ) (y : ℤ) (near : List SweptEdge) → All (IsInRow r y) near → All (IsInRow r (y -ℤ pos 16256)) (map below near)
+pub all_below : (r : ℕ) (y : ℤ) (near : List SweptEdge) → All (IsInRow r y) near → All (IsInRow r (y -ℤ pos 16256)) (map below near)
 all_below r y [] h = All-nil (IsInRow r (y -ℤ pos 16256))
 all_below r y (n ∷ ns) h =
     All-cons (IsInRow r (y -ℤ pos 16256)) (below n) (map below ns) (in_row_below r y n (All-head (IsInRow r y) n ns h))
@@ -95,28 +96,6 @@ all_somewhere r y few by [] h = All-nil IsSomewhere
 all_somewhere r y few by (n ∷ ns) h =
     All-cons IsSomewhere n ns (record { r = r; y = y; few = few; near = by; in_row = All-head (IsInRow r y) n ns h })
     (all_somewhere r y few by ns (All-tail (IsInRow r y) n ns h))
-
-pub swept_sorted : (r : ℕ) (edges : List Segment) (low y : ℤ) (near after : List SweptEdge) → AreSwept r edges low y near
-    → IsPermutation near after → AreSwept r edges low y after
-swept_sorted r edges low y near after h p = record {
-  in_row = All-permutation (IsInRow r y) near after p h.in_row;
-  rises = λ x z a b. sym (count_permuted (λ m. is_past_up r m x z) near after p) ∙ h.rises x z a b;
-  falls = λ x z a b. sym (count_permuted (λ m. is_past_down r m x z) near after p) ∙ h.falls x z a b;
-}
-
-pub swept_below : (r : ℕ) (edges : List Segment) (low y : ℤ) (near after : List SweptEdge) → AreSwept r edges low y near
-    → IsPermutation (map below near) after → AreSwept r edges low (y -ℤ pos 16256) after
-swept_below r edges low y near after h p = record {
-  in_row = All-permutation (IsInRow r (y -ℤ pos 16256)) (map below near) after p (all_below r y near h.in_row);
-  rises = λ x z a b.
-      sym (count_permuted (λ m. is_past_up r m x z) (map below near) after p)
-      ∙ count_mapped (λ m. is_past_up r m x z) (λ m. is_past_up r m x z) below (λ m. same_up r m x z) near
-      ∙ h.rises x z a (omega (arith, ints, b));
-  falls = λ x z a b.
-      sym (count_permuted (λ m. is_past_down r m x z) (map below near) after p)
-      ∙ count_mapped (λ m. is_past_down r m x z) (λ m. is_past_down r m x z) below (λ m. same_down r m x z) near
-      ∙ h.falls x z a (omega (arith, ints, b));
-}
 
 module _ (r : ℕ) (y : ℤ) (columns : ℕ) where
   abbrev Are : List SweptEdge → List Crossing → Type 0
@@ -156,8 +135,16 @@ module _ (r : ℕ) (y : ℤ) (columns : ℕ) where
     within = All-permutation (λ d. d.column ≤ columns) cs ds p h.within;
   }
 
-  pub inside_is : (rule : Rule) (edges : List Segment) (low : ℤ) (near : List SweptEdge) (cs : List Crossing) (k : ℕ) → k < columns → low ≤ℤ y
-      → AreSwept r edges low y near → Are near cs → is_inside_at rule cs k ≡ is_inside_area rule r edges (centre_of_column k) y
-  inside_is rule edges low near cs k l above swept h =
+  pub inside_is : (rule : Rule) (edges : List Segment) (low : ℤ) (waiting live : List SweptEdge) (cs : List Crossing) (k : ℕ) → k < columns
+      → low ≤ℤ y → AreSwept r edges low y waiting live → AreBelow r y waiting → Are live cs
+      → is_inside_at rule cs k ≡ is_inside_area rule r edges (centre_of_column k) y
+  inside_is rule edges low waiting live cs k l above swept under h =
       let last : y ≤ℤ y = omega (arith, ints) in
-      ap₂ (is_inside rule) (h.rises k l ∙ swept.rises (centre_of_column k) y above last) (h.falls k l ∙ swept.falls (centre_of_column k) y above last)
+      let x = centre_of_column k in
+      let up = none_rises r y waiting under x in
+      let down = none_falls r y waiting under x in
+      let rises = swept.rises x y above last in
+      let falls = swept.falls x y above last in
+      let risen = h.rises k l in
+      let fallen = h.falls k l in
+      ap₂ (is_inside rule) (omega (arith, up, rises, risen)) (omega (arith, down, falls, fallen))

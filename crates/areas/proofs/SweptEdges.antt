@@ -1,17 +1,17 @@
 -- An edge in a row, and in the row below.
-use Rattle.std.proofs.Common.{◌≡◌, ℕ, suc, ◌+◌, ◌*◌, ◌^◌, ◌<◌, ◌≤◌, Bool, true, false, not, ◌&&◌, nat_le, inl, inr, ◌⊎◌, refl, sym, ap, ap₂, ◌∙◌, arith, ℤ, pos, neg_ℤ, nat_abs, ◌+ℤ◌, ◌-ℤ◌, ◌*ℤ◌, ◌≤ℤ◌, ◌<ℤ◌, int_le, int_lt}
+use Rattle.std.proofs.Common.{◌≡◌, ℕ, ◌^◌, ◌<◌, ◌≤◌, Bool, true, false, not, ◌&&◌, nat_le, inl, inr, ◌⊎◌, refl, sym, ap, ap₂, ◌∙◌, arith, ℤ, pos, nat_abs, ◌+ℤ◌, ◌-ℤ◌, ◌*ℤ◌, ◌≤ℤ◌, ◌<ℤ◌, int_le, int_lt}
 use Rattle.std.proofs.lemmas.Bool.{cases_Bool}
 use Rattle.std.proofs.lemmas.Int.{ints, unsigned_abs-mul}
 use Rattle.std.proofs.lemmas.Nat.{mul-le}
 use Rattle.std.specs.Int.{int_div_euclid}
-use Rattle.exact.proofs.Fit.{difference_within, product_within, sum_within}
+use Rattle.exact.proofs.Fit.{product_within}
 use Rattle.exact.proofs.Ring.{mul_assoc_z, mul_comm_z, mul_left_comm_z, mul-add_z, mul-sub_z, sub-mul_z}
 use Rattle.exact.proofs.Rounding.{floor_is, le_scale, lt_unscale}
 use Rattle.plot_page.specs.Segments.{Segment}
 use Rattle.polygons.proofs.Tests.{le_true, le_false, le_from, le_not, lt_true, lt_false, lt_from, lt_not, same_test}
 use Rattle.areas.specs.Crossings.{IsClear, IsCrossing, centre_of_column}
 use Rattle.areas.specs.Inside.{rises_past, falls_past}
-use Rattle.areas.specs.Sweeps.{IsEdge, IsFar, IsFrom, IsInRow, below, in_column, is_past, is_past_down, is_past_up, pixel_of, place_of}
+use Rattle.areas.specs.Sweeps.{IsEdge, IsFar, IsInRow, IsWaiting, below, in_column, is_past, pixel_of, place_of, waiting_from}
 use Rattle.areas.specs.declared.swept_edge.SweptEdge.{SweptEdge}
 use Rattle.areas.proofs.Passes.{begins_above, begins_below, ends_above, ends_below, fails, fails_second}
 use Rattle.areas.proofs.Turns.{test_turned}
@@ -172,7 +172,7 @@ module _ (r : ℕ) (y : ℤ) (n : SweptEdge) (h : IsInRow r y n) where
   rest_within = omega (arith, ints, h.rest_low, h.rest_high, h.ay, h.by)
 
 -- which of its places an edge passes, as it was given
-module _ (r : ℕ) (y : ℤ) (e : Segment) (n : SweptEdge) where
+module _ (r : ℕ) (e : Segment) (n : SweptEdge) where
   no_rise : e.by <ℤ e.ay → (x z : ℤ) → rises_past r e x z ≡ false
   no_rise h x z =
       let l = le_scale r e.by e.ay (omega (arith, ints, h)) in
@@ -193,20 +193,19 @@ module _ (r : ℕ) (y : ℤ) (e : Segment) (n : SweptEdge) where
         | inr f ↦ fails (int_le (pos r *ℤ e.by) z) (int_lt z (pos r *ℤ e.ay)) left f
       ]
 
-  pub edge_up : IsFrom r y e.ax e.ay e.bx e.by true n → e.ay <ℤ e.by → IsEdge r y e n
-  edge_up f h = record {
-    in_row = f.in_row;
-    rises = λ x z. rw (f.ax, f.ay, f.bx, f.by, f.direction) refl;
-    falls = λ x z. ap (λ (b : Bool). not b && is_past r n x z) f.direction ∙ sym (no_fall h x z);
+  pub edge_up : IsWaiting n → n ≡ waiting_from e.ax e.ay e.bx e.by true → e.ay <ℤ e.by → IsEdge r e n
+  edge_up w f h = record {
+    waits = w;
+    rises = λ x z. rw f refl;
+    falls = λ x z. rw f (sym (no_fall h x z));
   }
 
-  pub edge_down : IsFrom r y e.bx e.by e.ax e.ay false n → e.by <ℤ e.ay → IsEdge r y e n
-  edge_down f h = record {
-    in_row = f.in_row;
-    rises = λ x z. ap (λ (b : Bool). b && is_past r n x z) f.direction ∙ sym (no_rise h x z);
+  pub edge_down : IsWaiting n → n ≡ waiting_from e.bx e.by e.ax e.ay false → e.by <ℤ e.ay → IsEdge r e n
+  edge_down w f h = record {
+    waits = w;
+    rises = λ x z. rw f (sym (no_rise h x z));
     falls = λ x z.
-        rw (f.ax, f.ay, f.bx, f.by, f.direction)
-        (ap (λ (b : Bool). (int_le (pos r *ℤ e.by) z && int_lt z (pos r *ℤ e.ay)) && b) (test_turned (pos r) e.ax e.ay e.bx e.by x z));
+        rw f (ap (λ (b : Bool). (int_le (pos r *ℤ e.by) z && int_lt z (pos r *ℤ e.ay)) && b) (test_turned (pos r) e.ax e.ay e.bx e.by x z));
   }
 
 -- an edge that leads from a lower end to an upper one, in a row, by two divisions
@@ -230,9 +229,6 @@ divided_edge r y n times ax ay bx by rising slope low high is divides short_low 
       short_low = short_low;
       short_high = short_high;
     }
-
-pub nobody : SweptEdge
-nobody = record { ax = pos 0; ay = pos 0; bx = pos 0; by = pos 0; is_upward = false; column = pos 0; short = pos 0; step = pos 0; rest = pos 0 }
 
 pub division : (a b times : ℤ) → pos 0 <ℤ b → times ≡ int_div_euclid a b → ((times *ℤ b) ≤ℤ a) × (a <ℤ (times *ℤ b +ℤ b))
 division a b times some is =

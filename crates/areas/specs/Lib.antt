@@ -8,6 +8,7 @@ pub mod Laws
 pub mod Crossings
 pub mod Sweeps
 pub mod Cuts
+pub mod Places
 pub mod Unique
 -- Which shapes a walk has not come to yet.
 pub mod Walks

@@ -54,7 +54,7 @@ abbrev pub AreApart : ℕ → List Area → Type 0
 AreApart at [] = Unit {0}
 AreApart at (a ∷ more) = (at ≤ a.first) × (a.first < a.end) × AreApart a.end more
 
--- no area goes on after the first `at` strokes
+-- no area has edges both among the first `at` strokes and after them
 abbrev pub NoneGoesOn : ℕ → List Area → Type 0
 NoneGoesOn at areas = All (λ a. a.first < at → a.end ≤ at) areas
 

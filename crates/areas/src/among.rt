@@ -1,7 +1,8 @@
 //! The areas among some strokes.
-ghost use Rattle.std.specs.Prelude.{ℕ, ◌≡◌, ◌-◌, ◌≤◌, [], ◌∷◌, IfNone, IfSome, length, drop, take};
+ghost use Rattle.std.specs.Prelude.{ℕ, ◌≡◌, ◌-◌, ◌≤◌, [], ◌∷◌, IfNone, IfSome, IsTrue, length, drop, take};
 ghost use Rattle.std.specs.List.{All};
 ghost use Rattle.areas.specs.Cuts.{count_to};
+ghost use Rattle.areas.specs.Places.{IsPlace};
 ghost use Rattle.areas.specs.Shapes.{AreApart, all_counted, areas_between, beginning_at, counted, edge_count, ending_at};
 ghost use Rattle.areas.specs.Unique.{AreApart-prop};
 
@@ -78,7 +79,7 @@ impl<'a> Areas<'a> {
     }
 
     /// The first of them, and the others.
-    #[inline]
+    #[inline(always)]
     pub fn split_first(&self) -> Option<(Area, Areas<'a>)>
         ensures some { IfSome result (λ it. areas_in self.now ≡ it.0 ∷ areas_in it.1) }
         ensures none { IfNone result (areas_in self.now ≡ []) }
@@ -91,22 +92,80 @@ impl<'a> Areas<'a> {
         Some((counted(*area, self.before), rest))
     }
 
-    /// The area whose last edge is stroke number `end`.
-    pub fn ending_at(&self, end: usize) -> Option<Area>
+    /// The area whose last edge is stroke number `end`. `near` is where it is looked for first, and then where it is, or would be:
+    /// who asks for one number after another finds most areas there, and need not search.
+    #[inline(always)]
+    pub fn ending_at(&self, end: usize, near: &mut usize) -> Option<Area>
+        ensures { result ≡ ending_at end (areas_in self.now) }
+    {
+        if self.list.is_empty() {
+            return None;
+        }
+        self.ending_near(end, near)
+    }
+
+    // The same, whether there are areas or not.
+    #[inline(never)]
+    fn ending_near(&self, end: usize, near: &mut usize) -> Option<Area>
         ensures { result ≡ ending_at end (areas_in self.now) }
     {
         let number = end as u128 + self.before as u128;
+        let at = self.place_near(number, *near);
+        *near = at;
+        if at < self.list.len() && self.list[at].end as u128 == number {
+            return Some(counted(self.list[at], self.before));
+        }
+        None
+    }
+
+    // Which areas end before a number: those before this place.
+    fn place_near(&self, number: u128, near: usize) -> usize
+        ensures { IsPlace number self.now.list.now result }
+    {
+        if self.is_place(number, near) {
+            return near;
+        }
+        let next = near.saturating_add(1);
+        if self.is_place(number, next) {
+            return next;
+        }
         match self
             .list
             .binary_search_by_key(&number, |area| area.end as u128)
         {
-            Ok(at) => Some(counted(self.list[at], self.before)),
-            Err(_) => None,
+            Ok(at) => at,
+            Err(at) => at,
         }
     }
 
+    // Whether the areas before a place end before a number, and the others do not.
+    #[inline(always)]
+    fn is_place(&self, number: u128, at: usize) -> bool
+        ensures { IsTrue result → IsPlace number self.now.list.now at }
+    {
+        if at > self.list.len() {
+            return false;
+        }
+        if at > 0 && self.list[at - 1].end as u128 >= number {
+            return false;
+        }
+        at == self.list.len() || number <= self.list[at].end as u128
+    }
+
     /// The area whose first edge comes after so many strokes.
+    #[inline(always)]
     pub fn beginning_at(&self, first: usize) -> Option<Area>
+        ensures { result ≡ beginning_at first (areas_in self.now) }
+    {
+        if self.list.is_empty() {
+            return None;
+        }
+        self.search_first(first)
+    }
+
+    // The same, whether there are areas or not.
+    #[inline(never)]
+    fn search_first(&self, first: usize) -> Option<Area>
         ensures { result ≡ beginning_at first (areas_in self.now) }
     {
         let number = first as u128 + self.before as u128;

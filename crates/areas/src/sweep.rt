@@ -1,25 +1,27 @@
 //! A sweep over the rows of an area, from above to below: which columns of each are inside.
-ghost use Rattle.std.specs.Prelude.{◌≡◌, ℕ, ℤ, List, ◌≤◌, ◌<◌, ◌^◌, ◌↔◌, ◌≤ℤ◌, ◌-ℤ◌, IfOk, IsTrue, length, map, nat_abs, pos, take};
+ghost use Rattle.std.specs.Prelude.{◌≡◌, ℕ, ℤ, List, [], ◌+◌, ◌≤◌, ◌<◌, ◌^◌, ◌↔◌, ◌≤ℤ◌, ◌-ℤ◌, IfOk, IsTrue, drop, filter, length, map, nat_abs, pos, take};
 ghost use Rattle.std.specs.List.{All};
 ghost use Rattle.std.specs.List.Sorted.{IsPermutation};
 ghost use Rattle.plot_page.specs.Segments.{Segment};
 ghost use Rattle.areas.specs.Crossings.{AreCrossings, AreOrdered, centre_of_column, IsRange, found_in, is_in_any};
 ghost use Rattle.areas.specs.Inside.{is_inside_area};
-ghost use Rattle.areas.specs.Sweeps.{AreSwept, Follows, HasRoomFor, IsInRow, IsSomewhere, IsSweeping, below};
+ghost use Rattle.areas.specs.Sweeps.{AreBelow, AreNear, AreSwept, Follows, HasRoomFor, IsInRow, IsSomewhere, IsSweeping, IsSweepingAmong, IsSweepingOver, below, reaches_down};
 
 use crate::crossing::{Crossing, crossing_of};
 use crate::range::{ColumnRange, divide};
-use crate::swept_edge::{SweptEdge, swept};
+use crate::swept_edge::{SweptEdge, scaled, swept};
 use plot_page::{Dots, Stroke};
 use polygons::Rule;
 use std::alloc::{AllocError, Global};
 
-/// A sweep over rows of an area: the edges that these rows may pass, as they are in the next row, and room for the crossings of a
-/// row with them, and for the ranges of columns between these.
+/// A sweep over rows of an area: the edges that these rows may pass, first those that wait until the rows come to them, the highest
+/// last, and before `end` those that the rows have come to, as they are in the next row; and room for the crossings of a row with
+/// these, and for the ranges of columns between the crossings.
 #[derive(Drop)]
 pub struct AreaSweep {
     near: Vec<SweptEdge>,
-    near_count: usize,
+    waiting: usize,
+    end: usize,
     crossings: Vec<Crossing>,
     ranges: Vec<ColumnRange>,
     count: usize,
@@ -52,7 +54,8 @@ impl AreaSweep {
         let ranges = vec![in alloc; none; edges + 1]?;
         Ok(AreaSweep {
             near,
-            near_count: 0,
+            waiting: 0,
+            end: 0,
             crossings,
             ranges,
             count: 0,
@@ -72,11 +75,11 @@ impl AreaSweep {
     /// Begins with the row at height `top`, and goes no farther down than to height `bottom`. Heights are in steps.
     pub fn begin(&mut self, edges: &[Stroke], dots: Dots, bottom: i64, top: i64)
         requires room { HasRoomFor (length edges.now) self.old }
-        requires near { nat_abs top ≤ 2 ^ 32 }
         ensures follows { Follows dots.resolution edges.entry.now bottom top self.new }
         ensures room { (count : ℕ) → HasRoomFor count self.old → HasRoomFor count self.new }
     {
-        self.near_count = gather(edges, dots, bottom, top, self.near.as_mut_slice());
+        self.end = gather(edges, dots, bottom, top, self.near.as_mut_slice());
+        self.waiting = self.end;
     }
 
     /// Finds the columns of the next row, which is at this height, whose centres are inside the area. The row after it is the one
@@ -92,10 +95,24 @@ impl AreaSweep {
             Follows dots.resolution edges low (height -ℤ pos 16256) self.new }
         ensures room { (count : ℕ) → HasRoomFor count self.old → HasRoomFor count self.new }
     {
-        let near = &self.near.as_slice()[..self.near_count];
-        let room = self.crossings.as_mut_slice();
-        let count = cross(near, dots, height, columns, room);
-        descend(self.near.as_mut_slice(), self.near_count);
+        self.waiting = start_among(
+            self.near.as_mut_slice(),
+            self.waiting,
+            self.end,
+            dots,
+            height,
+        );
+        let live = &self.near.as_slice()[self.waiting..self.end];
+        let count = cross(live, dots, height, columns, self.crossings.as_mut_slice());
+        let lower = height - 16256;
+        let kept = descend_among(
+            self.near.as_mut_slice(),
+            self.waiting,
+            self.end,
+            dots,
+            lower,
+        );
+        self.end = self.waiting + kept;
         let crossings = &self.crossings.as_slice()[..count];
         self.count = divide(rule, crossings, columns, self.ranges.as_mut_slice());
     }
@@ -109,25 +126,22 @@ impl AreaSweep {
     }
 }
 
-// Writes the edges that rows from one height down to another may pass, as they are in the first row, from the left to the right,
-// and answers how many there are.
+// Writes the edges that rows from one height down to another may pass, the highest last, and answers how many there are.
 fn gather(edges: &[Stroke], dots: Dots, bottom: i64, top: i64, room: &mut [SweptEdge]) -> usize
     requires room { length edges.now ≤ length room.old }
-    requires near { nat_abs top ≤ 2 ^ 32 }
-    ensures are { AreSwept dots.resolution edges.entry.now bottom top (take result room.new) }
+    ensures are { AreSwept dots.resolution edges.entry.now bottom top (take result room.new) [] }
     ensures few { result ≤ length edges.entry.now }
     ensures same { length room.new ≡ length room.old }
 {
     let count = edges_near(edges, dots, bottom, top, room);
-    room[..count].sort_unstable_by_key(|edge| edge.column);
+    room[..count].sort_unstable_by_key(|edge| edge.by);
     count
 }
 
 // The same in the order of the polygon.
 fn edges_near(edges: &[Stroke], dots: Dots, bottom: i64, top: i64, room: &mut [SweptEdge]) -> usize
     requires room { length edges.now ≤ length room.old }
-    requires near { nat_abs top ≤ 2 ^ 32 }
-    ensures are { AreSwept dots.resolution edges.entry.now bottom top (take result room.new) }
+    ensures are { AreNear dots.resolution edges.entry.now bottom top (take result room.new) }
     ensures few { result ≤ length edges.entry.now }
     ensures same { length room.new ≡ length room.old }
 {
@@ -139,6 +153,62 @@ fn edges_near(edges: &[Stroke], dots: Dots, bottom: i64, top: i64, room: &mut [S
         }
     }
     count
+}
+
+// Comes to the row at a height with the edges before `end`, of which the first ones wait. Answers how many wait still.
+fn start_among(near: &mut [SweptEdge], waiting: usize, end: usize, dots: Dots, height: i64) -> usize
+    requires sweeping { IsSweepingAmong dots.resolution height near.old waiting end }
+    requires near { nat_abs height ≤ 2 ^ 32 }
+    ensures swept { (edges : List Segment) (low : ℤ)
+        → AreSwept dots.resolution edges low height (take waiting near.old) (drop waiting (take end near.old))
+        → AreSwept dots.resolution edges low height (take result near.new) (drop result (take end near.new)) }
+    ensures below { AreBelow dots.resolution height (take result near.new) }
+    ensures few { result ≤ waiting }
+    ensures same { length near.new ≡ length near.old }
+{
+    start(&mut near[..end], waiting, dots, height)
+}
+
+// Comes to the row at a height with edges of which the first ones wait, and sorts those that it has come to if they are more now.
+// Answers how many wait still.
+fn start(near: &mut [SweptEdge], waiting: usize, dots: Dots, height: i64) -> usize
+    requires sweeping { IsSweepingOver dots.resolution height near.old waiting }
+    requires near { nat_abs height ≤ 2 ^ 32 }
+    ensures swept { (edges : List Segment) (low : ℤ)
+        → AreSwept dots.resolution edges low height (take waiting near.old) (drop waiting near.old)
+        → AreSwept dots.resolution edges low height (take result near.new) (drop result near.new) }
+    ensures below { AreBelow dots.resolution height (take result near.new) }
+    ensures few { result ≤ waiting }
+    ensures same { length near.new ≡ length near.old }
+{
+    let left = come(near, waiting, dots, height);
+    if left < waiting {
+        near[left..].sort_unstable_by_key(|edge| edge.column);
+    }
+    left
+}
+
+// The same, but for the order.
+fn come(near: &mut [SweptEdge], waiting: usize, dots: Dots, height: i64) -> usize
+    requires sweeping { IsSweepingOver dots.resolution height near.old waiting }
+    requires near { nat_abs height ≤ 2 ^ 32 }
+    ensures swept { (edges : List Segment) (low : ℤ)
+        → AreSwept dots.resolution edges low height (take waiting near.old) (drop waiting near.old)
+        → AreSwept dots.resolution edges low height (take result near.new) (drop result near.new) }
+    ensures below { AreBelow dots.resolution height (take result near.new) }
+    ensures few { result ≤ waiting }
+    ensures same { length near.new ≡ length near.old }
+{
+    let mut left = waiting;
+    'edges: while left > 0 {
+        let edge = near[left - 1];
+        if scaled(dots, edge.by) <= height {
+            break;
+        }
+        near[left - 1] = edge.placed(dots, height);
+        left -= 1;
+    }
+    left
 }
 
 // Writes the crossings of a row with edges from the left to the right, and answers how many there are.
@@ -179,25 +249,55 @@ fn crossings_of(
     count
 }
 
-// Goes on to the row below with so many edges, in any order.
-fn descend(near: &mut [SweptEdge], count: usize)
-    requires few { count ≤ length near.old }
-    requires somewhere { All IsSomewhere (take count near.old) }
-    ensures below { IsPermutation (map below (take count near.old)) (take count near.new) }
+// Goes on to the row below, at this height, with the edges before `end` that do not wait, and answers how many of them are not
+// above it.
+fn descend_among(
+    near: &mut [SweptEdge],
+    waiting: usize,
+    end: usize,
+    dots: Dots,
+    height: i64,
+) -> usize
+    requires order { waiting ≤ end }
+    requires few { end ≤ length near.old }
+    requires somewhere { All IsSomewhere (drop waiting (take end near.old)) }
+    ensures waiting { take waiting near.new ≡ take waiting near.old }
+    ensures below { IsPermutation (map below (filter (reaches_down dots.resolution height) (drop waiting (take end near.old))))
+        (drop waiting (take (waiting + result) near.new)) }
+    ensures few { waiting + result ≤ end }
     ensures same { length near.new ≡ length near.old }
 {
-    descend_all(&mut near[..count]);
+    descend(&mut near[waiting..end], dots, height)
 }
 
-fn descend_all(near: &mut [SweptEdge])
+// Goes on to the row below, at this height, with the edges that are not above it, in any order. Answers how many they are.
+fn descend(near: &mut [SweptEdge], dots: Dots, height: i64) -> usize
     requires { All IsSomewhere near.old }
-    ensures below { IsPermutation (map below near.old) near.new }
+    ensures below { IsPermutation (map below (filter (reaches_down dots.resolution height) near.old)) (take result near.new) }
+    ensures few { result ≤ length near.old }
     ensures same { length near.new ≡ length near.old }
 {
-    for edge in near.iter_mut() {
-        *edge = edge.below();
+    let kept = descend_all(near, dots, height);
+    settle(&mut near[..kept]);
+    kept
+}
+
+// The same, in the order of the edges.
+fn descend_all(near: &mut [SweptEdge], dots: Dots, height: i64) -> usize
+    requires { All IsSomewhere near.old }
+    ensures below { take result near.new ≡ map below (filter (reaches_down dots.resolution height) near.old) }
+    ensures few { result ≤ length near.old }
+    ensures same { length near.new ≡ length near.old }
+{
+    let mut kept = 0;
+    for at in 0..near.len() {
+        let edge = near[at];
+        if scaled(dots, edge.ay) <= height {
+            near[kept] = edge.below();
+            kept += 1;
+        }
     }
-    settle(near);
+    kept
 }
 
 // Has neighbours change places that are in the wrong order, so that crossings are mostly in order before they are sorted.

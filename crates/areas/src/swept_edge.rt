@@ -1,10 +1,11 @@
 //! Edges in a row of pixels, and in the rows below it.
 ghost use Rattle.std.specs.Prelude.{◌≡◌, ◌≤◌, ◌^◌, nat_abs, pos, ◌+ℤ◌, ◌-ℤ◌, ◌*ℤ◌, ◌<ℤ◌, ◌≤ℤ◌};
-ghost use Rattle.areas.specs.Sweeps.{IsFrom, IsSomewhere, IsSweptAs, below, place_of};
+ghost use Rattle.areas.specs.Sweeps.{IsFrom, IsSomewhere, IsSweptAs, IsWaiting, below, place_of, waiting_from};
 
 use plot_page::{Dots, Stroke};
 
-/// An edge that has a height, in a row of pixels: from its lower end (`ax`, `ay`) to its upper one (`bx`, `by`), in grains.
+/// An edge that has a height, from its lower end (`ax`, `ay`) to its upper one (`bx`, `by`), in grains; and where it is in a row of
+/// pixels, once the rows have come to it.
 #[derive(Clone, Copy, Debug)]
 pub struct SweptEdge {
     pub ax: i32,
@@ -23,26 +24,58 @@ pub struct SweptEdge {
     pub rest: i64,
 }
 
-/// An edge as it is in the row at height `top`, if a row from there down to height `bottom` may be level with it. Heights are in
-/// steps.
+/// An edge, if a row from height `top` down to height `bottom` may be level with it. Heights are in steps.
 pub fn swept(edge: &Stroke, dots: Dots, bottom: i64, top: i64) -> Option<SweptEdge>
-    requires { nat_abs top ≤ 2 ^ 32 }
     ensures { IsSweptAs dots.resolution bottom top edge.now result }
 {
     let first = scaled(dots, edge.ay);
     let last = scaled(dots, edge.by);
     if first < last && first <= top && bottom < last {
-        let up = SweptEdge::between(edge.ax, edge.ay, edge.bx, edge.by, true, dots, top);
+        let up = SweptEdge::waiting(edge.ax, edge.ay, edge.bx, edge.by, true);
         return Some(up);
     }
     if last < first && last <= top && bottom < first {
-        let down = SweptEdge::between(edge.bx, edge.by, edge.ax, edge.ay, false, dots, top);
+        let down = SweptEdge::waiting(edge.bx, edge.by, edge.ax, edge.ay, false);
         return Some(down);
     }
     None
 }
 
 impl SweptEdge {
+    // The edge from a lower end to an upper one, to which no row has come yet.
+    fn waiting(ax: i32, ay: i32, bx: i32, by: i32, is_upward: bool) -> SweptEdge
+        ensures { result ≡ waiting_from ax ay bx by is_upward }
+    {
+        SweptEdge {
+            ax,
+            ay,
+            bx,
+            by,
+            is_upward,
+            column: 0,
+            short: 0,
+            step: 0,
+            rest: 0,
+        }
+    }
+
+    /// The edge in the row at a height.
+    pub fn placed(self, dots: Dots, height: i64) -> SweptEdge
+        requires waiting { IsWaiting self }
+        requires near { nat_abs height ≤ 2 ^ 32 }
+        ensures { IsFrom dots.resolution height self.ax self.ay self.bx self.by self.is_upward result }
+    {
+        SweptEdge::between(
+            self.ax,
+            self.ay,
+            self.bx,
+            self.by,
+            self.is_upward,
+            dots,
+            height,
+        )
+    }
+
     // The edge from a lower end to an upper one, in the row at a height.
     fn between(
         ax: i32,

@@ -45,7 +45,7 @@ impl<'a> ShapeWalk<'a> {
     }
 
     /// The next shape, or `None` after the last stroke.
-    #[inline]
+    #[inline(always)]
     pub fn next(&mut self) -> Option<NextShape<'a>>
         ensures some { IfSome result (λ shape. IsNext shape (shapes_left self.old) (shapes_left self.new)) }
         ensures none { IfNone result (All HasNoStrokes (shapes_left self.old)) }
@@ -60,7 +60,7 @@ impl<'a> ShapeWalk<'a> {
     }
 
     // The area that begins with the next stroke, and those after it.
-    #[inline]
+    #[inline(always)]
     fn begun(&self) -> Option<(Area, Areas<'a>)>
         ensures some { IfSome result (λ it. areas_in self.now.areas ≡ it.0 ∷ areas_in it.1) }
         ensures here { IfSome result (λ it. it.0.first ≡ self.now.at) }
@@ -75,6 +75,7 @@ impl<'a> ShapeWalk<'a> {
     }
 
     // Passes an area, after which these are left.
+    #[inline(never)]
     fn pass_area(&mut self, area: Area, rest: Areas<'a>) -> NextShape<'a>
         requires first { areas_in self.old.areas ≡ area ∷ areas_in rest }
         requires here { area.first ≡ self.old.at }
@@ -94,7 +95,7 @@ impl<'a> ShapeWalk<'a> {
     }
 
     // Passes a stroke, with which no area begins.
-    #[inline]
+    #[inline(always)]
     fn pass_stroke(&mut self) -> NextShape<'a>
         requires within { self.old.at < length self.old.strokes.now }
         requires apart { AreApart (self.old.at + 1) (areas_in self.old.areas) }

@@ -49,7 +49,8 @@ fn keep(links: &mut [u32], tail: u32, slot: u32, goes: bool) -> u32
 }
 
 // Paints the stroke of a slot, and what is inside of the area that ends with it, in a band of which `first` is the number of the first row
-// on the page, and `past` that of the row after it. Returns the end of the rows of their boxes.
+// on the page, and `past` that of the row after it. Returns the end of the rows of their boxes. The area is looked for at place `near`
+// of the list, where the one of the next slot will be.
 fn paint_slot<G: Gauge, C: Canvas>(
     gauge: &mut G,
     canvas: &mut C,
@@ -58,6 +59,7 @@ fn paint_slot<G: Gauge, C: Canvas>(
     slot: u32,
     first: u32,
     past: u32,
+    near: &mut usize,
 ) -> u32
     requires slot_in { slot ≤ length scene.now.strokes.now }
     requires some { 1 ≤ slot }
@@ -88,7 +90,7 @@ fn paint_slot<G: Gauge, C: Canvas>(
     let page = scene.page;
     let dots = scene.dots;
     let bottom = canvas.paint(gauge, &stroke, &page, dots, first, slot);
-    let Some(area) = scene.areas.ending_at(slot as usize) else {
+    let Some(area) = scene.areas.ending_at(slot as usize, near) else {
         return bottom;
     };
     let placed = PlacedArea {
@@ -155,12 +157,13 @@ pub fn paint_band<G: Gauge, C: Canvas>(
     let mut old = links[0];
     let mut new = heads[band as usize];
     let mut tail = 0;
+    let mut near = 0;
     let mut slot = old.min(new);
     'slots: while slot < end {
         let next = links[slot as usize];
         old = moved(old, slot, next);
         new = moved(new, slot, next);
-        let bottom = paint_slot(gauge, canvas, sweep, scene, slot, first, first + rows);
+        let bottom = paint_slot(gauge, canvas, sweep, scene, slot, first, first + rows, &mut near);
         tail = keep(links, tail, slot, past < bottom);
         slot = old.min(new);
     }
@@ -177,7 +180,7 @@ fn band_of_row(row: u32, band_rows: u32) -> u32
 }
 
 // The band in which the rows of a slot begin, or the number of bands.
-fn band_of_slot(scene: &Scene<'_>, slot: u32, bands: u32) -> u32
+fn band_of_slot(scene: &Scene<'_>, slot: u32, bands: u32, near: &mut usize) -> u32
     requires slot_in { slot ≤ length scene.now.strokes.now }
     requires some { 1 ≤ slot }
     ensures { result ≡ band_of scene.now.pens scene.now.strokes.now (areas_in scene.now.areas) scene.now.page scene.now.dots
@@ -187,7 +190,7 @@ fn band_of_slot(scene: &Scene<'_>, slot: u32, bands: u32) -> u32
     if !scene.pens.has(stroke.pen) {
         return bands;
     }
-    let rows = rows_of_slot(scene, &stroke, slot);
+    let rows = rows_of_slot(scene, &stroke, slot, near);
     let begin = rows.low.max(scene.first_row);
     if begin < rows.end {
         band_of_row(begin - scene.first_row, scene.band_rows)
@@ -196,13 +199,13 @@ fn band_of_slot(scene: &Scene<'_>, slot: u32, bands: u32) -> u32
     }
 }
 
-// The rows of the stroke of a slot, and of the area that ends with it.
-fn rows_of_slot(scene: &Scene<'_>, stroke: &Stroke, slot: u32) -> Span
+// The rows of the stroke of a slot, and of the area that ends with it, which is looked for at place `near` of the list.
+fn rows_of_slot(scene: &Scene<'_>, stroke: &Stroke, slot: u32, near: &mut usize) -> Span
     ensures low { result.low ≡ least_row stroke.now (area_at scene.now.strokes.now (areas_in scene.now.areas) slot).strokes scene.now.page scene.now.dots }
     ensures end { result.end ≡ greatest_row stroke.now (area_at scene.now.strokes.now (areas_in scene.now.areas) slot).strokes scene.now.page scene.now.dots }
     ensures within { result.end ≤ rows_of scene.now.page scene.now.dots }
 {
-    match scene.areas.ending_at(slot as usize) {
+    match scene.areas.ending_at(slot as usize, near) {
         Some(area) => rows_of_edges(stroke, edges_in(scene, area), &scene.page, scene.dots),
         None => extent_of(stroke, &scene.page, scene.dots).rows,
     }
@@ -231,8 +234,9 @@ pub fn chain(scene: &Scene<'_>, heads: &mut [u32], links: &mut [u32])
 {
     let bands = heads.len() as u32;
     let mut slot = scene.strokes.len() as u32;
+    let mut near = 0;
     'slots: while slot > 0 {
-        let band = band_of_slot(scene, slot, bands);
+        let band = band_of_slot(scene, slot, bands, &mut near);
         link(heads, links, band, slot);
         slot -= 1;
     }

@@ -87,7 +87,8 @@ fn areas_of_a_sheet(rt: HostRuntime) -> Result<(), Fail> {
     };
     assert_eq!(rt; second.count(), 2);
     assert_eq!(rt; second.beginning_at(1), Some(rectangle));
-    assert_eq!(rt; second.ending_at(5), Some(rectangle));
+    let mut near = 0;
+    assert_eq!(rt; second.ending_at(5, &mut near), Some(rectangle));
     assert_eq!(rt; second.beginning_at(0), None);
     assert_eq!(rt; areas_on(areas, ends, count, 0).count(), 3);
     assert_eq!(rt; areas_on(areas, ends, count, 1).count(), 1);

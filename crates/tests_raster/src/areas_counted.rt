@@ -27,10 +27,30 @@ fn areas_of_all_strokes(rt: HostRuntime) -> Result<(), Fail> {
     assert_eq!(rt; areas.count(), 2);
     assert_eq!(rt; areas.edge_count(), 6);
     assert_eq!(rt; areas.most_edges(), 4);
-    assert_eq!(rt; areas.ending_at(3), Some(SECOND));
-    assert_eq!(rt; areas.ending_at(2), None);
     assert_eq!(rt; areas.beginning_at(4), Some(FOURTH));
     assert_eq!(rt; areas.beginning_at(0), None);
+    Ok(())
+}
+
+// Whatever place areas are looked for at first, the same ones are found; and it is then that of the area, or of the next one.
+#[test]
+fn areas_near_places(rt: HostRuntime) -> Result<(), Fail> {
+    let list = [SECOND, FOURTH];
+    let areas = Areas::all(&list);
+    for place in [0, 1, 2, 3, usize::MAX] {
+        let mut near = place;
+        assert_eq!(rt; areas.ending_at(2, &mut near), None);
+        assert_eq!(rt; near, 0);
+        near = place;
+        assert_eq!(rt; areas.ending_at(3, &mut near), Some(SECOND));
+        assert_eq!(rt; near, 0);
+        near = place;
+        assert_eq!(rt; areas.ending_at(8, &mut near), Some(FOURTH));
+        assert_eq!(rt; near, 1);
+        near = place;
+        assert_eq!(rt; areas.ending_at(9, &mut near), None);
+        assert_eq!(rt; near, 2);
+    }
     Ok(())
 }
 
@@ -40,8 +60,9 @@ fn areas_between_strokes(rt: HostRuntime) -> Result<(), Fail> {
     let areas = Areas::between(&list, 2, 9);
     assert_eq!(rt; areas.count(), 1);
     assert_eq!(rt; areas.edge_count(), 4);
-    assert_eq!(rt; areas.ending_at(1), None);
-    assert_eq!(rt; areas.ending_at(6).map(|area| area.first), Some(2));
+    let mut near = 0;
+    assert_eq!(rt; areas.ending_at(1, &mut near), None);
+    assert_eq!(rt; areas.ending_at(6, &mut near).map(|area| area.first), Some(2));
     assert_eq!(rt; Areas::between(&list, 1, 4).count(), 1);
     assert_eq!(rt; Areas::between(&list, 1, 5).count(), 2);
     assert_eq!(rt; Areas::none().most_edges(), 0);

@@ -297,8 +297,9 @@ fn areas_of_a_sheet(rt: HostRuntime) -> Result<(), Fail> {
     assert_eq!(rt; shapes.stroke_count(), 0);
     assert_eq!(rt; shapes.areas.most_edges(), 4);
     assert!(rt; shapes.areas.beginning_at(0).is_some());
-    assert!(rt; shapes.areas.ending_at(4).is_some());
-    assert!(rt; shapes.areas.ending_at(8).is_none());
+    let mut near = 0;
+    assert!(rt; shapes.areas.ending_at(4, &mut near).is_some());
+    assert!(rt; shapes.areas.ending_at(8, &mut near).is_none());
     let wanted = "........\n.111111.\n.111111.\n.111111.\n.111111.\n.111111.\n.111111.\n........\n";
     are_painted(&rt, rt.alloc(), shapes, 127, PenSet::all(), wanted)
 }

@@ -1,4 +1,4 @@
-use Rattle.std.proofs.Common.{ℕ, ℤ, pos, ◌*ℤ◌, ◌≤ℤ◌, ◌<ℤ◌, ◌⊎◌, inl, inr, arith, rules, FitsSigned}
+use Rattle.std.proofs.Common.{inl, inr, arith, rules, FitsSigned}
 use mir.Syntax.{w32, w64}
 use Rattle.std.proofs.lemmas.Int.{ints, to_z-of_z}
 use Rattle.areas.proofs.SweptEdges.{clear_here, crossing_here}

@@ -2,7 +2,7 @@ use Rattle.std.proofs.Common.{take, ◌∙◌, arith, rules, FitsSigned}
 use mir.Syntax.{w64}
 use Rattle.std.proofs.lemmas.Int.{to_z-of_z}
 use Rattle.std.proofs.lemmas.List.{length-set, take_all, take_more_set}
-use Rattle.areas.specs.Sweeps.{AreSwept}
+use Rattle.areas.specs.Sweeps.{AreNear}
 use Rattle.areas.proofs.Gathered.{near_next, far_next}
 use Rattle.areas.proofs.sweep.edges_near.Goals as goal
 use Rattle.areas.proofs.sweep.edges_near.Goals.{in-Some, in_default}
@@ -16,12 +16,12 @@ loop-edge-preserved c =
     let i = c.loop-edge.edge-index in
     let near = take c.loop-edge.count c.loop-edge.room in
     let t = c.loop-edge-test.true in
-    let are : AreSwept r (take i edges) c.args.bottom c.args.top near = simp to_z-of_z at c.loop-edge.invariant.0 in
+    let are : AreNear r (take i edges) c.args.bottom c.args.top near = simp to_z-of_z at c.loop-edge.invariant.0 in
     let few = c.loop-edge.invariant.1 in
     let same = c.loop-edge.invariant.2 in
     elim c.match-swept.branch [
       | in-Some w ↦ (
-          let is = simp to_z-of_z at w.in-Some.ensures in
+          let is = w.in-Some.ensures in
           let next = near_next r c.args.bottom c.args.top edges near i c.edge-item.result w.in-Some.near t c.edge-item.is are is in
           let m = take_more_set c.loop-edge.room c.loop-edge.count w.in-Some.near (omega (arith, few, same, t, c.requires.room)) in
           simp to_z-of_z (rw (w.room-is, w.count-is, m) (next, omega (arith, few), length-set c.loop-edge.room c.loop-edge.count w.in-Some.near ∙ same))

@@ -1,4 +1,4 @@
-use Rattle.std.proofs.Common.{refl, ◌∙◌}
+use Rattle.std.proofs.Common.{◌∙◌}
 use Rattle.std.proofs.lemmas.List.Sorted.{IsPermutation-trans}
 use Rattle.areas.proofs.sweep.settle.Goals as goal
 use Rattle.areas.proofs.sweep.settle.Goals.{then-near-at, else-near-at}

@@ -1,4 +1,4 @@
-use Rattle.std.proofs.Common.{ℤ, ◌-ℤ◌, ◌*ℤ◌, arith, rules, FitsSigned}
+use Rattle.std.proofs.Common.{◌-ℤ◌, ◌*ℤ◌, arith, rules, FitsSigned}
 use mir.Syntax.{w64}
 use Rattle.std.proofs.lemmas.Int.{ints, to_z-of_z}
 use Rattle.areas.proofs.SweptEdges.{division}

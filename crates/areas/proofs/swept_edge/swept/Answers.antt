@@ -1,23 +1,12 @@
-use Rattle.std.proofs.Common.{ℤ, pos, ◌*ℤ◌, ◌≤ℤ◌, ◌<ℤ◌, ◌⊎◌, inl, inr, subst, arith, rules, FitsSigned}
+use Rattle.std.proofs.Common.{pos, ◌*ℤ◌, ◌≤ℤ◌, ◌<ℤ◌, ◌⊎◌, inl, inr, subst, arith, rules, FitsSigned}
 use mir.Syntax.{w32, w64}
 use Rattle.std.proofs.lemmas.Int.{ints, to_z-of_z}
 use Rattle.exact.proofs.Rounding.{lt_unscale}
-use Rattle.plot_page.specs.Segments.{Segment}
-use Rattle.areas.specs.Sweeps.{IsEdge, IsFar}
+use Rattle.areas.specs.Sweeps.{IsEdge, IsFar, IsWaiting}
 use Rattle.areas.proofs.SweptEdges.{edge_down, edge_up, far}
 use Rattle.areas.proofs.swept_edge.swept.Goals as goal
 use Rattle.areas.proofs.swept_edge.swept.Goals.{else-first-last-via-then-first-last+then-first-top+else-bottom-last, else-first-last-via-then-first-last+else-first-top, else-first-last-via-else-first-last}
 use Rattle.areas.proofs.swept_edge.swept.Goals.{else-last-first-via-then-last-first+then-last-top+else-bottom-first, else-last-first-via-then-last-first+else-last-top, else-last-first-via-else-last-first}
-
-pub between-up-requires-clause-rising : goal.between-up-requires-clause-rising
-between-up-requires-clause-rising c =
-    let e = c.edge.inside in
-    let fa : FitsSigned w32 e.ay = search rules in
-    let fb : FitsSigned w32 e.by = search rules in
-    let first = simp to_z-of_z at c.scaled-first.ensures.value in
-    let last = simp to_z-of_z at c.scaled-last.ensures.value in
-    let less = c.if-first-last.true in
-    simp to_z-of_z (lt_unscale c.args.dots.resolution e.ay e.by (omega (arith, ints, first, last, less)))
 
 pub returns-then-bottom-last : goal.returns-then-bottom-last
 returns-then-bottom-last c =
@@ -27,23 +16,19 @@ returns-then-bottom-last c =
     let ay : FitsSigned w32 e.ay = search rules in
     let bx : FitsSigned w32 e.bx = search rules in
     let by : FitsSigned w32 e.by = search rules in
-    let ft : FitsSigned w64 c.args.top = search rules in
     let first = simp to_z-of_z at c.scaled-first.ensures.value in
     let last = simp to_z-of_z at c.scaled-last.ensures.value in
     let less = c.if-first-last.true in
-    let from = simp to_z-of_z at c.between-up.ensures in
-    subst (λ s. IsEdge r c.args.top s c.between-up.result) c.edge.view_is
-    (edge_up r c.args.top _ c.between-up.result from (lt_unscale r e.ay e.by (omega (arith, ints, first, last, less))))
-
-pub between-down-requires-clause-rising : goal.between-down-requires-clause-rising
-between-down-requires-clause-rising c =
-    let e = c.edge.inside in
-    let fa : FitsSigned w32 e.ay = search rules in
-    let fb : FitsSigned w32 e.by = search rules in
-    let first = simp to_z-of_z at c.scaled-first.ensures.value in
-    let last = simp to_z-of_z at c.scaled-last.ensures.value in
-    let less = c.if-last-first.true in
-    simp to_z-of_z (lt_unscale c.args.dots.resolution e.by e.ay (omega (arith, ints, first, last, less)))
+    let from = simp to_z-of_z at c.waiting-up.ensures in
+    let rising = lt_unscale r e.ay e.by (omega (arith, ints, first, last, less)) in
+    let waits : IsWaiting c.waiting-up.result = rw from (record {
+      ax = search rules;
+      ay = search rules;
+      bx = search rules;
+      by = search rules;
+      rising = rising;
+    }) in
+    subst (λ s. IsEdge r s c.waiting-up.result) c.edge.view_is (edge_up r _ c.waiting-up.result waits from rising)
 
 pub returns-then-bottom-first : goal.returns-then-bottom-first
 returns-then-bottom-first c =
@@ -53,13 +38,19 @@ returns-then-bottom-first c =
     let ay : FitsSigned w32 e.ay = search rules in
     let bx : FitsSigned w32 e.bx = search rules in
     let by : FitsSigned w32 e.by = search rules in
-    let ft : FitsSigned w64 c.args.top = search rules in
     let first = simp to_z-of_z at c.scaled-first.ensures.value in
     let last = simp to_z-of_z at c.scaled-last.ensures.value in
     let less = c.if-last-first.true in
-    let from = simp to_z-of_z at c.between-down.ensures in
-    subst (λ s. IsEdge r c.args.top s c.between-down.result) c.edge.view_is
-    (edge_down r c.args.top _ c.between-down.result from (lt_unscale r e.by e.ay (omega (arith, ints, first, last, less))))
+    let from = simp to_z-of_z at c.waiting-down.ensures in
+    let rising = lt_unscale r e.by e.ay (omega (arith, ints, first, last, less)) in
+    let waits : IsWaiting c.waiting-down.result = rw from (record {
+      ax = search rules;
+      ay = search rules;
+      bx = search rules;
+      by = search rules;
+      rising = rising;
+    }) in
+    subst (λ s. IsEdge r s c.waiting-down.result) c.edge.view_is (edge_down r _ c.waiting-down.result waits from rising)
 
 pub returns : goal.returns
 returns c =

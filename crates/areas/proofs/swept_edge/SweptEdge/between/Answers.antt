@@ -1,7 +1,6 @@
-use Rattle.std.proofs.Common.{◌≡◌, pos, neg_ℤ, ℤ, ◌+ℤ◌, ◌-ℤ◌, ◌*ℤ◌, refl, sym, ap, ap₂, ◌∙◌, arith, rules, FitsSigned}
+use Rattle.std.proofs.Common.{◌≡◌, pos, ℤ, ◌-ℤ◌, ◌*ℤ◌, refl, ap, arith, rules, FitsSigned}
 use mir.Syntax.{w32, w64}
 use Rattle.std.proofs.lemmas.Int.{ints, to_z-of_z}
-use Rattle.areas.specs.Sweeps.{place_of}
 use Rattle.areas.proofs.SweptEdges.{divided_edge}
 use Rattle.areas.proofs.swept_edge.SweptEdge.between.Goals as goal
 

@@ -2,7 +2,7 @@ use Rattle.std.proofs.Common.{rules, ◌∙◌, sym, ap, Some}
 use Rattle.std.proofs.lemmas.List.Sorted.{answers_always}
 use Rattle.areas.specs.declared.area.Area.{Area}
 use Rattle.areas.proofs.Apart.{first_found, first_absent}
-use Rattle.areas.proofs.among.Areas.beginning_at.Goals as goal
+use Rattle.areas.proofs.among.Areas.search_first.Goals as goal
 
 pub returns-in-Ok : goal.returns-in-Ok
 returns-in-Ok c =
