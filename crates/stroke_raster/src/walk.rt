@@ -163,7 +163,16 @@ pub fn paint_band<G: Gauge, C: Canvas>(
         let next = links[slot as usize];
         old = moved(old, slot, next);
         new = moved(new, slot, next);
-        let bottom = paint_slot(gauge, canvas, sweep, scene, slot, first, first + rows, &mut near);
+        let bottom = paint_slot(
+            gauge,
+            canvas,
+            sweep,
+            scene,
+            slot,
+            first,
+            first + rows,
+            &mut near,
+        );
         tail = keep(links, tail, slot, past < bottom);
         slot = old.min(new);
     }

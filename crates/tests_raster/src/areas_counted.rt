@@ -62,7 +62,10 @@ fn areas_between_strokes(rt: HostRuntime) -> Result<(), Fail> {
     assert_eq!(rt; areas.edge_count(), 4);
     let mut near = 0;
     assert_eq!(rt; areas.ending_at(1, &mut near), None);
-    assert_eq!(rt; areas.ending_at(6, &mut near).map(|area| area.first), Some(2));
+    assert_eq!(rt;
+        areas.ending_at(6, &mut near).map(|area| area.first),
+        Some(2)
+    );
     assert_eq!(rt; Areas::between(&list, 1, 4).count(), 1);
     assert_eq!(rt; Areas::between(&list, 1, 5).count(), 2);
     assert_eq!(rt; Areas::none().most_edges(), 0);
