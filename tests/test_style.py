@@ -54,7 +54,7 @@ def test_format():
     assert done.returncode == 0, done.stdout + done.stderr
 
 
-@pytest.mark.parametrize("script", ["crc_table", "deflate_codes", "sine_table"])
+@pytest.mark.parametrize("script", ["crc_table", "deflate_codes", "sine_table", "tangent_table"])
 def test_tables(script):
     """The tables of the sources are those that these scripts compute."""
     words = [os.path.join(TOP, "tools", script), "--check"]
