@@ -42,8 +42,6 @@ numbers = refl
 groups : Agree (
     (group 0 (codes "LINE"), codes "0\nLINE\n")  -- a word
     ∷ (number_group 10 (negsuc 15624), codes "10\n-0.0015625\n")  -- a negative number
-    ∷ (colour_group 1 7, codes "62\n1\n")  -- another colour than that of the layer
-    ∷ (colour_group 7 7, [])  -- the same one
     ∷ (layer_entry (codes "0") 7, codes "0\nLAYER\n2\n0\n70\n0\n62\n7\n6\nCONTINUOUS\n")  -- layer 0
     ∷ [])
 unfolding digits
@@ -65,6 +63,14 @@ colours : Table number_among (
     ∷ (record { red = 255; green = 63; blue = 0 }, 1)  -- nearer to red
     ∷ [])
 colours = refl
+
+-- the colours of entities
+entities : Agree (
+    (colour_group orange (Some black), codes "62\n30\n")  -- another one than that of the layer
+    ∷ (colour_group black (Some black), [])  -- the same one
+    ∷ [])
+unfolding digits
+entities = refl
 
 abbrev whole : Window
 whole = record { x0 = pos 0; y0 = pos 0; x1 = pos 1024; y1 = pos 1056 }

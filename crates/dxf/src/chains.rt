@@ -64,7 +64,7 @@ pub(crate) fn goes_on(last: &Piece, next: &Piece) -> bool
         && is_same_point(last.to, next.from)
 }
 
-fn is_same_colour(one: Colour, other: Colour) -> bool
+pub(crate) fn is_same_colour(one: Colour, other: Colour) -> bool
     ensures { result ≡ is_same_colour one other }
 {
     one.red == other.red && one.green == other.green && one.blue == other.blue

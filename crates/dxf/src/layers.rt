@@ -1,12 +1,13 @@
 //! Layers: one for each pen of a sheet that is drawn.
 ghost use Rattle.stroke_runs.specs.Drawn.{is_drawn};
-ghost use Rattle.std.specs.Prelude.{if◌then◌else◌, ◌≡◌, ◌≤◌, ◌<◌, length, [], ◌++◌};
+ghost use Rattle.std.specs.Prelude.{if◌then◌else◌, ◌==◌, Some, ◌≡◌, ◌≤◌, ◌<◌, length, [], ◌++◌};
 ghost use Rattle.pieces.specs.Texts.{IsSound, Puts};
 ghost use Rattle.plot_page.specs.declared.stroke.TheConstants.{MOST_STROKES};
 ghost use Rattle.std.specs.Prelude.{codes};
-ghost use Rattle.dxf.specs.Layers.{colour_group, layer_entry, layer_groups, layer_name, layers_of, layers_text, number_of, pen_entry, sheet_name, with_layer, with_stroke};
+ghost use Rattle.dxf.specs.Layers.{colour_group, colour_of, layer_entry, layer_groups, layer_name, layers_of, layers_text, pen_entry, sheet_name, with_layer, with_stroke};
 ghost use Rattle.dxf.specs.Groups.{count_group, group};
 
+use crate::chains::is_same_colour;
 use crate::colours::colour_number;
 use crate::groups::{put_count, put_group};
 use devices::Sink;
@@ -19,8 +20,8 @@ use stroke_runs::is_drawn;
 pub(crate) struct Layers {
     /// The number of the sheet, if the document has several.
     pub(crate) sheet: Option<u32>,
-    /// The colour number of the layer of each pen, 0 if it has none.
-    pub(crate) numbers: [u32; 256],
+    /// The colour of the layer of each pen that has one.
+    pub(crate) colours: [Option<Colour>; 256],
 }
 
 impl Layers {
@@ -30,7 +31,7 @@ impl Layers {
     {
         let mut layers = Layers {
             sheet,
-            numbers: [0; 256],
+            colours: [None; 256],
         };
         for stroke in strokes {
             layers.add_drawn(pens, stroke);
@@ -41,8 +42,8 @@ impl Layers {
     // Adds a layer for the pen of a stroke, if it is drawn, unless there is one.
     fn add_drawn(&mut self, pens: &PenSet, stroke: &Stroke)
         ensures sheet { self.new.sheet ≡ self.old.sheet }
-        ensures numbers { self.new.numbers ≡ (if is_drawn pens.now stroke.now
-            then with_stroke self.old.numbers stroke.now else self.old.numbers) }
+        ensures colours { self.new.colours ≡ (if is_drawn pens.now stroke.now
+            then with_stroke self.old.colours stroke.now else self.old.colours) }
     {
         if is_drawn(pens, stroke) {
             self.add(stroke.pen, stroke.colour);
@@ -52,18 +53,19 @@ impl Layers {
     // Adds a layer of this colour for a pen, unless there is one.
     fn add(&mut self, pen: u8, colour: Colour)
         ensures sheet { self.new.sheet ≡ self.old.sheet }
-        ensures numbers { self.new.numbers ≡ with_layer self.old.numbers pen colour }
+        ensures colours { self.new.colours ≡ with_layer self.old.colours pen colour }
     {
-        if self.number_of(pen) == 0 {
-            self.numbers[usize::from(pen)] = colour_number(colour);
+        match self.colour_of(pen) {
+            Some(_) => {}
+            None => self.colours[usize::from(pen)] = Some(colour),
         }
     }
 
-    // The colour number of the layer of a pen, 0 if it has none.
-    fn number_of(&self, pen: u8) -> u32
-        ensures { result ≡ number_of self.now.numbers pen }
+    // The colour of the layer of a pen, if it has one.
+    fn colour_of(&self, pen: u8) -> Option<Colour>
+        ensures { result ≡ colour_of self.now.colours pen }
     {
-        self.numbers[usize::from(pen)]
+        self.colours[usize::from(pen)]
     }
 }
 
@@ -84,13 +86,12 @@ fn put_pen<K: Sink>(text: &mut Text<'_, K>, layers: &Layers, pen: u8)
     requires sound { IsSound K.state text.old }
     ensures puts { Puts K.state text.old text.new (pen_entry layers.now pen) }
 {
-    let number = layers.number_of(pen);
-    if number == 0 {
+    let Some(colour) = layers.colour_of(pen) else {
         return;
-    }
+    };
     put_group(text, 0, b"LAYER");
     put_layer(text, layers, 2, pen);
-    put_rest(text, number);
+    put_rest(text, colour_number(colour));
 }
 
 // Puts the entry of layer 0, which is always there.
@@ -159,13 +160,35 @@ pub(crate) fn put_layer_groups<K: Sink>(
     ensures puts { Puts K.state text.old text.new (layer_groups layers.now pen colour) }
 {
     put_layer(text, layers, 8, pen);
-    put_colour(text, colour_number(colour), layers.number_of(pen));
+    put_colour(text, colour, layers.colour_of(pen));
 }
 
 // Puts a colour, if the layer has another one.
-fn put_colour<K: Sink>(text: &mut Text<'_, K>, own: u32, of_layer: u32)
+fn put_colour<K: Sink>(text: &mut Text<'_, K>, own: Colour, of_layer: Option<Colour>)
     requires sound { IsSound K.state text.old }
     ensures puts { Puts K.state text.old text.new (colour_group own of_layer) }
+{
+    match of_layer {
+        Some(colour) => put_other(text, own, colour),
+        None => put_count(text, 62, colour_number(own)),
+    }
+}
+
+// Puts a colour, if it has another number than that of the layer. That need not be looked up for the layer's own colour.
+fn put_other<K: Sink>(text: &mut Text<'_, K>, own: Colour, of_layer: Colour)
+    requires sound { IsSound K.state text.old }
+    ensures puts { Puts K.state text.old text.new (colour_group own (Some of_layer)) }
+{
+    if is_same_colour(own, of_layer) {
+        return;
+    }
+    put_number_of(text, colour_number(own), colour_number(of_layer));
+}
+
+// Puts the number of a colour, if that of the layer is another one.
+fn put_number_of<K: Sink>(text: &mut Text<'_, K>, own: u32, of_layer: u32)
+    requires sound { IsSound K.state text.old }
+    ensures puts { Puts K.state text.old text.new (if own == of_layer then [] else count_group 62 own) }
 {
     if own != of_layer {
         put_count(text, 62, own);

@@ -7,5 +7,5 @@ use Rattle.dxf.proofs.layers.Layers.of.Given as goal
 abbrev pub invariant-loop-stroke : goal.invariant-loop-stroke
 invariant-loop-stroke l = record {
   sheet : l.layers.sheet ≡ l.fn.sheet;
-  numbers : with_strokes l.layers.numbers (drawn l.pens (drop l.stroke-index l.strokes)) ≡ (layers_of l.fn.sheet l.pens l.strokes).numbers;
+  colours : with_strokes l.layers.colours (drawn l.pens (drop l.stroke-index l.strokes)) ≡ (layers_of l.fn.sheet l.pens l.strokes).colours;
 }
