@@ -23,10 +23,10 @@ use stroke_raster::Gauge;
 /// shape of the selected pens that reaches it: a stroke, as the gauge says, or an area that has it inside, or an edge of which
 /// reaches it. A vector document is named so.
 ///
-/// A picture in a form has its head if its first row is 0, its rows from the first row on, all or at most so many, and its foot
-/// if the last row is one of them. Each pixel of a smoothed PPM is the mean of n by n pixels of a picture that is n times finer. Marks, PBM and PCL have no shades, and are
-/// written as without smoothing. If pixels are chosen, the page has so many along its longer side, instead of the picture's
-/// resolution.
+/// A picture in a form has its head if its first row is 0, its rows from the first row on, all or at most so many, and
+/// its foot if the last row is one of them. Each pixel of a smoothed PPM is the mean of n by n pixels of a picture
+/// that is n times finer. Marks, PBM and PCL have no shades, and are written as without smoothing. If pixels are
+/// chosen, the page has so many along its longer side, instead of the picture's resolution.
 ///
 /// Of a PNG, reading it gives the size of the picture, its resolution in pixels a metre, and the colour of each pixel, which
 /// is that of the PPM. Its palette is white and then each further colour of the selected strokes, in the order in which it

@@ -11,9 +11,10 @@ use conversion::{Fault, Naming, Outcome, Request, Setup, Watcher, report_on, sta
 use devices::{Sink, Source};
 use std::alloc::Global;
 
-/// Does what the task says with the plot that the source gives, which is read and drawn so: draws it, and writes the picture of all that is drawn, or writes the report on it. Gives the sink
-/// back. A vector document is named so; the watcher is told how far a picture in pixels is. The errors are those of
-/// `conversion::Request::new`, before the source is read, of `draw_sheets` and of `write_sheet`, or of `conversion::report_on`.
+/// Does what the task says with the plot that the source gives, which is read and drawn so: draws it, and writes the
+/// picture of all that is drawn, or writes the report on it. Gives the sink back. A vector document is named so; the
+/// watcher is told how far a picture in pixels is. The errors are those of `conversion::Request::new`, before the
+/// source is read, of `draw_sheets` and of `write_sheet`, or of `conversion::report_on`.
 pub fn run_task<S: Source, K: Sink, W: Watcher>(
     alloc: Global,
     setup: Setup<'_>,
