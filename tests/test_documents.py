@@ -210,11 +210,11 @@ def test_formats_of_each_command():
 
 
 def test_pictures_of_the_gallery():
-    """Each picture that docs/GALLERY.md shows is made by one of its blocks, but for one of a viewer, and the other way round."""
+    """Each picture that docs/GALLERY.md shows is made by one of its blocks, but for two of viewers, and the other way round."""
     text = read("docs", "GALLERY.md")
     made = [name for names in re.findall(r"^for name in (.+); do$", text, re.M) for name in names.split()]
     made += [name for name in re.findall(r"(?:>|-o) (\w+)\.png$", text, re.M)]
-    assert sorted([*made, "layers"]) == sorted(re.findall(r"\]\((\w+)\.png\)", text))
+    assert sorted([*made, "layers", "librecad"]) == sorted(re.findall(r"\]\((\w+)\.png\)", text))
 
 
 def test_number_of_blocks():
