@@ -34,7 +34,7 @@ def plan(width, height):
 
 
 CENTRED = b"SP1;PU-3000,0;PD3000,0;PU0,-2000;PD0,2000;PU0,0;CI1500;"
-OFF_RANGE = b"IN;PU0,0;PD70000,0;"
+OFF_RANGE = b"IN;PU0,0;PD8388607.9,0;"
 NO_PLOT = b"%!\n1 2 3\n"
 ARCHIVE = {
     "plots/first.plt": plan(*A4),
@@ -42,7 +42,7 @@ ARCHIVE = {
     "plots/a folder/it's \"quoted\".plt": b"SP2;PU100,100;PD3000,100;",
     "plots/a folder/first.plt": b"SP3;PU100,100;PD100,3000;",
     "plots/off range.plt": OFF_RANGE,
-    "plots/a folder/-off\\new.plt": b"PD0,0," + b"1,1," * 9 + b"0,99999;",
+    "plots/a folder/-off\\new.plt": b"PD0,0," + b"1,1," * 9 + b"0,8388607.9;",
     "plots/no plot.plt": NO_PLOT,
 }
 REFUSED = {

@@ -16,7 +16,7 @@ SECONDS = 60
 FILTER = os.path.join(TOP, "packaging", "cups", "hpgltopdf")
 PLOT = b"IN;SP1;PU100,100;PD3000,100,3000,2000;"
 SHEETS = b"SP1;PU0,0;PD3000,0;PG;SP2;PD3000,2000;"
-BAD = b"IN;PU0,0;PD70000,0;"
+BAD = b"IN;PU0,0;PD8388607.9,0;"
 
 
 class Queue:
@@ -84,7 +84,7 @@ def test_errors(queue):
 def test_warnings(queue):
     """A plot that draws nothing is printed as an empty page, one that is hardly understood as what it draws, and one that is
     larger than a page is cut off, with a message."""
-    large = b"SP1;PU-32000,-32000;PD-32000,32767,32767,32767;PU65000,65000;PD0,0;"
+    large = b"SP1;PU-300000,-32000;PD-300000,32767,32767,32767;PU300000,65000;PD0,0;"
     for plot, message in ((b"IN;PU;", messages.text("blank", "plotraster report --profile full")),
                           (b"PU0,0;PD300,200;XX;XX;", "2 notes on 1 line: see plotraster report --profile full"),
                           (large, messages.text("too-large-to-fit"))):

@@ -128,7 +128,7 @@ def test_thumbnails(program, thumbnailer, tmp_path):
 
 def test_no_thumbnails_of_bad_plots(thumbnailer, tmp_path):
     """A plot that is refused, and one that is not there, leave no file."""
-    (tmp_path / "bad.plt").write_bytes(b"PU0,0;PD70000,0;")
+    (tmp_path / "bad.plt").write_bytes(b"PU0,0;PD8388607.9,0;")
     for name, status in (("bad.plt", 1), ("none.plt", 3)):
         made = thumbnailer(tmp_path / name, tmp_path / "thumbnail.png", 256)
         assert made.returncode == status and made.stderr.startswith("plotraster: "), name

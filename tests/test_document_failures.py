@@ -29,7 +29,7 @@ NAMES = ["palette", "truecolour", "pdf", "pdf of sheets", "svg", "svg of sheets"
 
 @pytest.mark.parametrize("command", DOCUMENTS)
 @pytest.mark.parametrize("words, plot, ends", [
-    ([], b"PD99999,0;", messages.refused("off-range", 0)),
+    ([], b"PD8388607.9,0;", messages.refused("off-range", 0)),
     (["--pens=0"], LINE, messages.refused("pens")),
     (["missing.plt"], LINE, messages.refused("not-opened", "missing.plt", "no-such-file")),
     (["folder"], LINE, messages.refused("not-opened", "folder", "a-folder")),

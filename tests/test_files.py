@@ -14,7 +14,7 @@ SECONDS = 60
 SMALL = ["--width=4000", "--height=3000"]
 LINE = b"SP1;PU0,0;PD3000,2000;"
 TWO = b"SP2;PU0,0;PD3000,2000;PG;SP1;PU0,900;PD3000,9;"
-OFF_RANGE = b"PD99999,0;"
+OFF_RANGE = b"PD8388607.9,0;"
 OLD = b"an older picture\n"
 COMMANDS = [*DOCUMENTS, *FORMS, "report"]
 NOT_WRITTEN = messages.text("write")

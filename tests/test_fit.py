@@ -36,7 +36,6 @@ KEPT = {
     "of no plot": (b"%!\n", "blank-to-fit"),
     "beside its window": (b"IW0,0,10,10;PU100,100;PD2000,2000;", "blank-to-fit"),
     "too wide": (b"PU-60000,0;PD60000,0;", "too-large-to-fit"),
-    "too far": (b"IW0,0,30,30;PU10,10;PD65530,10;", "too-large-to-fit"),
 }
 
 
@@ -137,6 +136,14 @@ def test_page_that_is_kept(program):
             assert drawn(program, ["pbm", "--fit", *words], plot, messages.said(why)) == drawn(program, ["pbm", *words], plot)
 
 
+def test_pages_of_the_profile_full(program):
+    """They are up to 524,288 units long. A line that would lead too far when it is moved keeps the page."""
+    words = ["--profile=full"]
+    assert page_of(program, [*words, "--fit", "--margin=0"], b"PW0;PU-60000,0;PD60000,0;")[:2] == ["--width=120000", "--height=64"]
+    for plot in (b"PU-300000,0;PD300000,0;", b"IW0,0,30,30;PU10,10;PD8388600,10;"):
+        assert page_of(program, [*words, "--fit"], plot, messages.said("too-large-to-fit")) == page_of(program, words, plot)
+
+
 def test_drawing_that_follows_the_page_may_fit(program):
     """A plot in user units fits the page around it if its corners are set."""
     plot = b"IP0,0,1000,1000;SC0,10,0,10;PU1,1;PD9,9;"
@@ -196,7 +203,7 @@ def test_page_that_the_plot_asks_for(program):
 def test_refused_plots(program):
     """A plot that is refused on the page that is given is refused, and nothing is written."""
     for words in (["pbm"], ["report"], ["marks", "--margin=0"]):
-        done = run(program, [*words, "--fit"], SECONDS, input=b"IN;PU0,0;PD70000,0;")
+        done = run(program, [*words, "--fit"], SECONDS, input=b"IN;PU0,0;PD8388607.9,0;")
         assert (done.returncode, done.stdout, done.stderr) == (1, b"", messages.said("off-range", 9))
 
 
@@ -263,7 +270,7 @@ def test_verbose_and_fitted(program):
 
 def test_verbose_and_refused(program):
     """Of a plot that is refused only the refusal is said."""
-    done = run(program, ["pbm", "--verbose"], SECONDS, input=b"PD70000,0;")
+    done = run(program, ["pbm", "--verbose"], SECONDS, input=b"PD8388607.9,0;")
     assert (done.returncode, done.stdout, done.stderr) == (1, b"", messages.said("off-range", 0))
 
 

@@ -6,9 +6,9 @@ from string import ascii_lowercase
 
 import pytest
 
-from reference import full_cutting, full_plotter, plotter
+from reference import full_cutting, full_plotter, messages, plotter
 from reference.geometry import Page
-from reference.plotter import FARTHEST, Refused
+from reference.plotter import FARTHEST_END, Refused
 from reference.random_full_plots import FullWriter
 from reference.random_plots import random_case
 from reference.shapes import is_area, strokes_of
@@ -38,6 +38,11 @@ def drawn(draw, plot, page):
         return draw(plot, page)
     except Refused as refusal:
         return str(refusal)
+
+
+def is_too_far(got):
+    """Whether a plot is refused for a place off range."""
+    return isinstance(got, str) and got.startswith(messages.text("off-range", ""))
 
 
 def without_labels(got):
@@ -89,12 +94,13 @@ def core_plots(part):
 
 @pytest.mark.parametrize("part", range(PARTS))
 def test_core_is_the_same_in_both(part):
-    """A plot with only the core's items has the same strokes, notes and refusal in both profiles."""
+    """A plot with only the core's items has the same strokes and notes in both profiles, and the same refusal but for a place that
+    only core refuses."""
     wrong, sizes = [], []
     for seed, plot, page in core_plots(part):
         core, full = (without_labels(drawn(profile.draw, plot, page)) for profile in (plotter, full_plotter))
         sizes.append(0 if isinstance(core, str) else len(core[0]))
-        if core != full:
+        if core != full and not is_too_far(core):
             wrong.append(f"seed {seed}: {plot!r} on {page}")
     assert_nothing(wrong)
     # Nearly all are compared, and many draw.
@@ -103,7 +109,7 @@ def test_core_is_the_same_in_both(part):
 
 @pytest.mark.parametrize("part", range(PARTS))
 def test_shapes_are_in_range(part):
-    """Ends and widths of all strokes and edges are in the core's range, and sheets are numbered without gaps. The edges of an area
+    """Ends and widths of all strokes and edges are in range, and sheets are numbered without gaps. The edges of an area
     lead round: as many end at a place as begin there."""
     wrong, drawings, areas = [], 0, 0
     for seed in range(part, FULL_PLOTS, PARTS):
@@ -114,7 +120,7 @@ def test_shapes_are_in_range(part):
         drawings += len(got[0]) > 5
         sheets = {shape.sheet for shape in got[0]}
         for stroke in (stroke for shape in got[0] for stroke in strokes_of(shape)):
-            if max(map(abs, (*stroke.a, *stroke.b))) > FARTHEST or not 0 <= stroke.width <= WIDEST or not stroke.pen:
+            if max(map(abs, (*stroke.a, *stroke.b))) > FARTHEST_END or not 0 <= stroke.width <= WIDEST or not stroke.pen:
                 wrong.append(f"seed {seed}: {stroke}")
         for area in filter(is_area, got[0]):
             areas += 1

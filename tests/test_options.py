@@ -33,7 +33,10 @@ PLOT = "plot"
 
 
 def range_in(text):
-    """The values that a description gives: `10 to 1200`, or a list such as `75, 100 or 150`."""
+    """The values that a description gives for the profile full: `10 to 1200`, or a list such as `75, 100 or 150`."""
+    wider = re.search(r"(\d+) to \d+, with --profile full to (\d+)", text)
+    if wider:
+        return f"{wider[1]} to {wider[2]}"
     listed = re.search(r"\d+(?:, \d+)+ or \d+", text)
     found = listed or re.search(r"\d+ to \d+", text)
     return found[0] if found else None
@@ -106,8 +109,8 @@ def ends(values):
 
 
 def takes(program, command, option):
-    """Whether the program takes an option, written with its value, on a small page and an empty plot."""
-    small = [it for it in ["--width=64", "--height=64", "--fit"] if it.split("=")[0] != option.split("=")[0]]
+    """Whether the program takes an option, written with its value, on a small page and an empty plot, in the profile full."""
+    small = [it for it in ["--profile=full", "--width=64", "--height=64", "--fit"] if it.split("=")[0] != option.split("=")[0]]
     done = run(program, [command, *small, option], SECONDS)
     return not done.stderr.startswith((b"error: ", b"plotraster: resolution is not", b"plotraster: bad "))
 

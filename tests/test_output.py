@@ -59,7 +59,7 @@ def test_old_file_is_replaced(program, tmp_path):
     assert os.listdir(tmp_path) == ["out"]
 
 
-@pytest.mark.parametrize("plot, ends", [(LINE, (0, b"")), (b"PD99999,0;", messages.refused("off-range", 0))])
+@pytest.mark.parametrize("plot, ends", [(LINE, (0, b"")), (b"PD8388607.9,0;", messages.refused("off-range", 0))])
 @pytest.mark.parametrize("make", [os.symlink, os.link, lambda _, part: os.mkfifo(part)], ids=["link", "hard link", "pipe"])
 def test_older_part_is_replaced(program, tmp_path, make, plot, ends):
     """Not what it leads to, also if it is no file of its own; a refused plot leaves that, too."""
@@ -71,7 +71,7 @@ def test_older_part_is_replaced(program, tmp_path, make, plot, ends):
 
 
 @pytest.mark.parametrize("words, plot, ends", [
-    ([], b"PD99999,0;", messages.refused("off-range", 0)),
+    ([], b"PD8388607.9,0;", messages.refused("off-range", 0)),
     (["--dots=10", "--from=999"], LINE, messages.refused("first-row")),
     (["folder"], LINE, messages.refused("read")),
     (["missing.plt"], LINE, messages.refused("open", "missing.plt")),
@@ -115,7 +115,7 @@ def test_refusal_of_the_plot_file_comes_first(program, tmp_path):
     ends = messages.refused("open", "missing.plt")
     assert write_to(program, tmp_path, ["pbm", "missing.plt", "-o", "missing/out"]) == ends
     ends = cannot_write("missing/out.part", "no-such-folder")
-    assert write_to(program, tmp_path, ["pbm", "-o", "missing/out"], b"PD99999,0;") == ends
+    assert write_to(program, tmp_path, ["pbm", "-o", "missing/out"], b"PD8388607.9,0;") == ends
 
 
 def test_plot_is_not_overwritten(program, tmp_path):

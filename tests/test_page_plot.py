@@ -23,12 +23,12 @@ PLOTS = {
     b"PS500;": (500, 8400),
     b"PS500,;": (500, 8400),
     b"PS400,300;PS500,500;": (400, 300),
-    b"PS;PS63,64;PS400:;PS-400,300;PS65536.5,64;PS8388608;PS400,300;": (400, 300),
+    b"PS;PS63,64;PS400:;PS-400,300;PS524288.5,64;PS8388608;PS400,300;": (400, 300),
     b"PS\x1b": None,
 }
 # Plots that ask for no page, or in a way that asks for nothing.
 NONE = [
-    b"", b"PS;", b"PS", b"PS,;", b"PS0,0;", b"PS63.4,300;", b"PS400,63;", b"PS65537;", b"PS-400,-300;", b"PS400,300:;",
+    b"", b"PS;", b"PS", b"PS,;", b"PS0,0;", b"PS63.4,300;", b"PS400,63;", b"PS524289;", b"PS-400,-300;", b"PS400,300:;",
     b"PS99999999999999999999,300;", b"PS.;", b"PS+;", b"P S400,300;", b"LBPS400,300;\3", b"NPS400,300;", b"PS\"400,300\";",
 ]
 NO_SIZE = messages.said("no-size")

@@ -152,7 +152,7 @@ def test_messages_follow_on_a_line_of_their_own(program):
 def test_refused_plots(program):
     """Of a plot that is refused only the refusal is said."""
     words = ["pbm", "--band=1", "--progress"]
-    assert on_terminal(program, words, b"PD70000,0;") == (1, b"", messages.said("off-range", 0))
+    assert on_terminal(program, words, b"PD8388607.9,0;") == (1, b"", messages.said("off-range", 0))
 
 
 def test_full_device(program):

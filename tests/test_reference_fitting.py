@@ -9,7 +9,7 @@ from reference import raster
 from reference.fitting import BLANK, TOO_LARGE, fitted, is_off
 from reference.geometry import NO_WINDOW, Page, whole_page
 from reference.outputs import answer, draw
-from reference.plotter import FARTHEST, Refused, Stroke
+from reference.plotter import FARTHEST_END, Refused, Stroke
 from reference.random_fitted_plots import number, random_fitted_case
 from reference.shapes import Area, strokes_of
 from shared import assert_nothing
@@ -176,13 +176,13 @@ def test_largest_pages():
 
 def test_strokes_too_far_from_the_page():
     """An end of a stroke, seen or not, is in range of the new corner too."""
-    hidden = stroke((FARTHEST, 0), (0, 0), window=(0, 0, 160, 160))
+    hidden = stroke((FARTHEST_END, 0), (0, 0), window=(0, 0, 160, 160))
     assert page_around(hidden) == (64, 64, 50, 60)
     assert page_around(hidden, stroke((0, -16), (0, 0))) == (64, 64, 50, 61)
     for other in (stroke((-1, 0), (0, 0)), stroke((0, 0), (0, 0), 1)):
         assert fitted([hidden, other], GIVEN, 0) == (GIVEN, [hidden, other], TOO_LARGE)
     assert fitted([hidden], GIVEN, 1).why == TOO_LARGE
-    below = stroke((0, -FARTHEST), (0, 0), window=(0, 0, 160, 160))
+    below = stroke((0, -FARTHEST_END), (0, 0), window=(0, 0, 160, 160))
     assert page_around(below, stroke((0, 0), (16, 0))) == (64, 64, 50, 60)
     assert fitted([below, stroke((0, 160), (0, 160))], GIVEN, 0).why is None
     assert fitted([below._replace(window=(0, 16, 160, 160), b=(0, 64))], GIVEN, 0).why == TOO_LARGE

@@ -70,10 +70,10 @@ def test_which_labels(plot, wanted):
 
 def test_places_off_range():
     """They are cut; letters there would be refused."""
-    (text, start, end, top), = labels_of(b"SI.005,.01;PU65530,0;LBI         \r\x03")[0]
-    assert (len(text), start, end, top) == (10, (1_048_480, 0), (1_048_576, 0), (1_048_480, 64))
-    moved, = rows_moved([Row((65,), start, end, top)], 90, -1_048_600)
-    assert moved == Row((65,), (1_048_570, -1_048_576), (1_048_576, -1_048_576), (1_048_570, -1_048_536))
+    (text, start, end, top), = labels_of(b"SI.005,.01;PU8388601,0;LBI         \r\x03")[0]
+    assert (len(text), start, end, top) == (10, (134_217_616, 0), (134_217_712, 0), (134_217_616, 64))
+    moved, = rows_moved([Row((65,), start, end, top)], 90, -134_217_736)
+    assert moved == Row((65,), (134_217_706, -134_217_712), (134_217_712, -134_217_712), (134_217_706, -134_217_672))
 
 
 @pytest.mark.parametrize("count, along, above, wanted", [

@@ -10,7 +10,7 @@ from reference import messages, raster
 from reference.geometry import NO_WINDOW, Page, whole_page
 from reference.labels import Row
 from reference.outputs import answer, draw, listed
-from reference.plotter import FARTHEST, Refused, Stroke
+from reference.plotter import FARTHEST_END, Refused, Stroke
 from reference.random_fitted_plots import base_case, random_fitted_case
 from reference.random_options import random_apart_case, random_drawn_case, random_pens_case
 from reference.random_vectors import random_vector_case
@@ -65,13 +65,13 @@ def test_windows(degrees, window):
 
 def test_labels():
     """Their places are cut to their own range after the turn."""
-    rows = [Row((65, 66), (160, 320), (480, 320), (160, 640)), Row((67,), (-(2**20), 0), (0, 0), (0, 5))]
+    rows = [Row((65, 66), (160, 320), (480, 320), (160, 640)), Row((67,), (-FARTHEST_END, 0), (0, 0), (0, 5))]
     turned, = Turn(PAGE, 90).labels([rows])
     assert turned[0] == ((65, 66), (HIGH - 320, 160), (HIGH - 320, 480), (HIGH - 640, 160))
     along, above = rows[0].matrix()[0], rows[0].matrix()[3]
     assert turned[0].matrix() == (0, along, -above, 0, HIGH - 320, 160)
     turned, = Turn(PAGE, 180).labels([rows])
-    assert turned[1] == ((67,), (2**20, HIGH), (WIDE, HIGH), (WIDE, HIGH - 5))
+    assert turned[1] == ((67,), (FARTHEST_END, HIGH), (WIDE, HIGH), (WIDE, HIGH - 5))
 
 
 def after(turns, page, shapes):
@@ -95,14 +95,14 @@ def test_turns_add_up():
 
 
 @pytest.mark.parametrize("degrees, place, beyond", [
-    (90, (0, HIGH - FARTHEST), (0, -1)), (90, (FARTHEST, 0), None), (180, (WIDE - FARTHEST, 0), (-1, 0)),
-    (180, (0, HIGH - FARTHEST), (0, -1)), (270, (WIDE - FARTHEST, 0), (-1, 0)), (270, (0, -FARTHEST), None),
+    (90, (0, HIGH - FARTHEST_END), (0, -1)), (90, (FARTHEST_END, 0), None), (180, (WIDE - FARTHEST_END, 0), (-1, 0)),
+    (180, (0, HIGH - FARTHEST_END), (0, -1)), (270, (WIDE - FARTHEST_END, 0), (-1, 0)), (270, (0, -FARTHEST_END), None),
 ])
 def test_lines_that_are_too_far(degrees, place, beyond):
     """An end is where an end may be, or one grain beyond that, if that is possible; windows and widths do not matter."""
     turn = Turn(PAGE, degrees)
     hidden = stroke((0, 0), place, NO_WINDOW)
-    assert max(map(abs, turn.shapes([hidden])[0].b)) == FARTHEST
+    assert max(map(abs, turn.shapes([hidden])[0].b)) == FARTHEST_END
     if beyond:
         x, y = (at + more for at, more in zip(place, beyond))
         for far in (hidden._replace(b=(x, y)), hidden._replace(a=(x, y)), Area(1, (0, 0, 0), WHOLE, (((0, 0), (x, y)),), 0)):
@@ -153,7 +153,7 @@ def wrong_turns(seed):
         shapes = draw(plot, page, 0 if seed % 2 else None).shapes
     except Refused:
         return
-    is_near = lambda shape: all(max(map(abs, (*it.a, *it.b))) < FARTHEST // 2 for it in strokes_of(shape))
+    is_near = lambda shape: all(max(map(abs, (*it.a, *it.b))) < FARTHEST_END // 2 for it in strokes_of(shape))
     shapes = [shape for shape in shapes if is_near(shape)]
     if sum(len(strokes_of(shape)) for shape in shapes) > MOST_LINES:
         return
@@ -246,17 +246,23 @@ def test_reports():
         assert all(answer("report", {**options, "rotate": degrees}, plot) == plain for degrees in ("0", "90", "180", "270"))
 
 
+FULL = {"profile": "full"}
+
+
 @pytest.mark.parametrize("options, plot, error", [
-    ({"rotate": "180"}, b"PU-65536,0;PD;", FAR), ({"rotate": "270"}, b"PU-65536,0;PD;", FAR),
-    ({"rotate": "90"}, b"PU-65536,0;PD;", None), ({"rotate": "0"}, b"PU-65536,0;PD;", None), ({}, b"PU-65536,0;PD;", None),
+    ({**FULL, "rotate": "180"}, b"PU-8388607,0;PD;", FAR), ({**FULL, "rotate": "270"}, b"PU-8388607,0;PD;", FAR),
+    ({**FULL, "rotate": "90"}, b"PU-8388607,0;PD;", None), ({**FULL, "rotate": "0"}, b"PU-8388607,0;PD;", None),
+    (FULL, b"PU-8388607,0;PD;", None),
     # Only the selected pens and the sheet that is drawn count.
-    ({"rotate": "180", "pens": "2"}, b"PU-65536,0;PD;", None), ({"rotate": "180", "pens": "1"}, b"PU-65536,0;PD;", FAR),
-    ({"rotate": "180", "profile": "full", "sheet": "2"}, b"PU-65536,0;PD;PG;PU0,0;PD;", None),
-    ({"rotate": "180", "profile": "full", "sheet": "0"}, b"PU-65536,0;PD;PG;PU0,0;PD;", FAR),
-    ({"rotate": "180", "profile": "full", "sheet": "each", "output": "pictures"}, b"PU0,0;PD;PG;PU-65536,0;PD;", FAR),
+    ({**FULL, "rotate": "180", "pens": "2"}, b"PU-8388607,0;PD;", None),
+    ({**FULL, "rotate": "180", "pens": "1"}, b"PU-8388607,0;PD;", FAR),
+    ({**FULL, "rotate": "180", "sheet": "2"}, b"PU-8388607,0;PD;PG;PU0,0;PD;", None),
+    ({**FULL, "rotate": "180", "sheet": "0"}, b"PU-8388607,0;PD;PG;PU0,0;PD;", FAR),
+    ({**FULL, "rotate": "180", "sheet": "each", "output": "pictures"}, b"PU0,0;PD;PG;PU-8388607,0;PD;", FAR),
     # The refusal of the plot comes first, that of the first row later.
-    ({"rotate": "180"}, b"PU-65536,0;PD-65537,0;", messages.text("off-range", 11)),
-    ({"rotate": "180", "from": "99"}, b"PU-65536,0;PD;", FAR), ({"rotate": "90", "from": "99"}, b"", messages.text("first-row")),
+    ({**FULL, "rotate": "180"}, b"PU-8388607,0;PD-8388607.9,0;", messages.text("off-range", 13)),
+    ({**FULL, "rotate": "180", "from": "99"}, b"PU-8388607,0;PD;", FAR),
+    ({**FULL, "rotate": "90", "from": "99"}, b"", messages.text("first-row")),
 ])
 def test_refusals(options, plot, error):
     got = answer("marks", {**SMALL, **options}, plot)
@@ -275,7 +281,8 @@ def test_mistakes(options, name):
 
 @pytest.mark.parametrize("case_of", KINDS, ids=[case_of.__name__ for case_of in KINDS])
 def test_random_cases(case_of):
-    """About a quarter of each kind is turned, by each quarter, and of those some are too far away."""
+    """About a quarter of each kind is turned, by each quarter, and of those in the profile full some are too far away, but for
+    those with few selected pens."""
     cases = [case_of(seed) for seed in range(CASES)]
     turned = [case for case in cases if "rotate" in case.options]
     assert 0.15 * CASES < len(turned) < 0.35 * CASES
@@ -283,4 +290,5 @@ def test_random_cases(case_of):
     assert min(rotations.count(str(degrees)) for degrees in QUARTERS) > CASES / 40
     profiles = {case.options.get("profile", "full" if case.form == "draw" else "core") for case in turned}
     assert "full" in profiles and (case_of is random_apart_case or "core" in profiles)
-    assert any(answer(*case).error.endswith(f"{FAR}\n") for case in turned)
+    are_full = [case for case in turned if case.options.get("profile", "full" if case.form == "draw" else "core") == "full"]
+    assert case_of is random_pens_case or any(answer(*case).error.endswith(f"{FAR}\n") for case in are_full)

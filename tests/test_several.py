@@ -17,7 +17,7 @@ SECONDS = 60
 SMALL = ["--width", "4000", "--height", "3000"]
 LINE = b"SP1;PU0,0;PD3000,2000;"
 DOWN = b"SP2;PU0,2900;PD3900,100;"
-OFF_RANGE = b"PD99999,0;"
+OFF_RANGE = b"PD8388607.9,0;"
 OLD = b"an older picture\n"
 COMMANDS = [*DOCUMENTS, *FORMS, "report"]
 

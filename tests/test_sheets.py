@@ -15,7 +15,7 @@ SECONDS = 60
 PAGE = ["--width=1500", "--height=1500", "--dots=100"]
 FULL = ["--profile=full", *PAGE]
 EACH = [*FULL, "--sheet=each", "-o", "out"]
-OFF_RANGE = b"PU5,5;PD500,500;PG;PD99999,0;"
+OFF_RANGE = b"PU5,5;PD500,500;PG;PD8388607.9,0;"
 OLD = b"an older picture\n"
 
 

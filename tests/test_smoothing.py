@@ -363,7 +363,7 @@ def test_refusals(program, tmp_path):
     write(str(tmp_path / "out"), OLD)
     for command in ("png", "ppm"):
         for where in ([], ["-o", "out"], ["-o", "new"]):
-            refused = functools.partial(ends_of, program, plot=b"PD99999,0;", cwd=tmp_path)
+            refused = functools.partial(ends_of, program, plot=b"PD8388607.9,0;", cwd=tmp_path)
             for dots, times in ((601, 2), (401, 3), (301, 4), (241, 5), (201, 6), (172, 7), (151, 8), (1200, 8)):
                 words = [command, f"--dots={dots}", f"--smooth={times}", *where]
                 assert refused(words) == TOO_FINE

@@ -218,7 +218,7 @@ def test_colours_of_pens(path, program):
 def test_status_of_several_plots(program, tmp_path):
     """It is the greatest of their numbers, in any order, as the manual page says."""
     assert "With several plots it is the greatest of these numbers that a plot has." in plain(PAGE)
-    (tmp_path / "far.plt").write_text("PA70000,0;")
+    (tmp_path / "far.plt").write_text("PA8388607.9,0;")
     for plots in (["far.plt", "none.plt"], ["none.plt", "far.plt"]):
         assert run(program, ["pbm", "-o", ".", *plots], SECONDS, cwd=tmp_path).returncode == 3
 
@@ -230,7 +230,7 @@ def test_life_of_a_part(program, tmp_path):
     assert said
     part = tmp_path / "to.part"
     documents = [(command, b"", False) for command in DOCUMENTS]
-    for command, plot, is_left in (("pbm", b"PA70000,0;", False), ("pbm", b"", True), *documents):
+    for command, plot, is_left in (("pbm", b"PA8388607.9,0;", False), ("pbm", b"", True), *documents):
         part.write_bytes(b"older")
         limited = ["bash", "-c", 'trap "" XFSZ; ulimit -f 0; exec "$0" "$@"', program, command, "-o", "to"]
         done = subprocess.run(limited, input=plot, capture_output=True, cwd=tmp_path, timeout=SECONDS)

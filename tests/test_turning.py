@@ -28,7 +28,7 @@ PLACES = {
 WHOLE = [*SMALL, "--dots=127"]
 FULL = ["--profile=full", "--sheet=1"]
 NAMES = ("figures", "windows", "districts", "lettering", "hatching")
-EDGE = b"PU-65536,0;PD;"
+EDGE = b"PU-8388607,0;PD;"
 TOO_FAR = messages.refused("too-far-to-turn")
 
 
@@ -207,7 +207,7 @@ def test_what_is_said(program, plot):
 def test_lines_that_are_too_far(program, command):
     """Which of them a turn cannot take; what is not selected does not count."""
     quiet = ["--quiet"] if command == "draw" else []
-    words = [command, "--page=a4", *quiet]
+    words = [command, "--page=a4", "--profile=full", *quiet]
     for degrees in (180, 270):
         assert ends_of(program, [*words, f"--rotate={degrees}"], EDGE) == TOO_FAR
         done = run(program, [*words, f"--rotate={degrees}", "--pens=2"], SECONDS, input=EDGE)
@@ -217,15 +217,15 @@ def test_lines_that_are_too_far(program, command):
     for degrees in (0, 90):
         assert run(program, [*words, f"--rotate={degrees}"], SECONDS, input=EDGE).returncode == 0
     # On a page of 64 units the last place that can be turned is 64 units farther on the other side.
-    page = [command, "--width=64", "--height=64", *quiet]
-    for far, ends in ((-65472, 0), (-65472.0625, 2)):
+    page = [command, "--width=64", "--height=64", "--profile=full", *quiet]
+    for far, ends in ((-8388543, 0), (-8388543.0625, 2)):
         for degrees, place in ((90, b"0,%a"), (180, b"%a,0"), (180, b"0,%a"), (270, b"%a,0")):
             done = run(program, [*page, f"--rotate={degrees}"], SECONDS, input=b"PU" + place % far + b";PD;")
             assert (done.returncode, done.stderr) == ((0, b"") if ends == 0 else TOO_FAR), (far, degrees)
 
 
-@pytest.mark.parametrize("where", [b"PD-65536,0,0,0;", b"PU9,9;RA-65536,20;", b"IW0,0,9,9;PU0,0;PD-65536,0;IW;",
-                                   b"PU-60000,0;SI1,1;LBI\x03"])
+@pytest.mark.parametrize("where", [b"PD-8388607,0,0,0;", b"PU9,9;RA-8388607,20;", b"IW0,0,9,9;PU0,0;PD-8388607,0;IW;",
+                                   b"PU-8380000,0;SI1,1;LBI\x03"])
 def test_what_is_too_far(program, where):
     """An end of a line, of an edge of an area, or of a line that a window hides."""
     assert ends_of(program, ["pbm", *FULL, "--rotate=180"], where) == TOO_FAR
@@ -233,11 +233,11 @@ def test_what_is_too_far(program, where):
 
 
 def test_order_of_refusals(program):
-    words = ["pbm", "--width=64", "--height=64", "--rotate=180"]
-    assert ends_of(program, words, EDGE + b"PU0,0;PD70000,0;") == messages.refused("off-range", 20)
+    words = ["pbm", "--width=64", "--height=64", "--profile=full", "--rotate=180"]
+    assert ends_of(program, words, EDGE + b"PU0,0;PD8388607.9,0;") == messages.refused("off-range", 22)
     assert ends_of(program, [*words, "--from=99999"], EDGE) == TOO_FAR
     assert ends_of(program, [*words, "--from=99999"], b"") == messages.refused("first-row")
-    assert ends_of(program, ["pcl", "--dots=127", "--rotate=180"], EDGE) == messages.refused("resolution")
+    assert ends_of(program, ["pcl", "--dots=127", "--profile=full", "--rotate=180"], EDGE) == messages.refused("resolution")
 
 
 @pytest.fixture

@@ -17,8 +17,9 @@ from reference.svg import read_svg
 from shared import EXAMPLES, assert_nothing, need, read_bytes, with_sheet
 from test_full_reference import options_of, plot_of, rows
 from test_pictures import cases, words_of
-from vector_pictures import DOTS, LEAST_INK, MUCH_INK, READERS_OF_PDF, READERS_OF_SVG, colours_of, far_from_edges, lost_ink
-from vector_pictures import new_ink, painted_pdf, painted_svg, picture_of, pictures, said_of_pdf, said_of_svg
+from vector_pictures import DOTS, LEAST_INK, MUCH_INK, READERS_OF_PDF, READERS_OF_SVG, box_of_pdf, colours_of
+from vector_pictures import far_from_edges, lost_ink, new_ink, painted_pdf, painted_svg, picture_of, pictures, said_of_pdf
+from vector_pictures import said_of_svg
 
 NAMES = [os.path.basename(path)[:-4] for path in sorted(glob.glob(os.path.join(EXAMPLES, "*.plt")))]
 READ = ["--profile=full", "--sheet=1"]
@@ -165,3 +166,14 @@ def test_full_examples(program, tmp_path, part):
         painted, shaded = pictures(ours, painted_pdf(pdf)), pictures(ours, painted_svg(svg))
         assert (far_from_edges(painted), lost_ink(painted), new_ink(painted)) == (0, 0, 0), name
         assert (lost_ink(shaded, LEAST_INK), new_ink(shaded, MUCH_INK)) == (0, 0), name
+
+
+@pytest.mark.parametrize("width, unit", [(203_200, 1), (203_201, 2), (406_400, 2), (406_401, 3), (524_288, 3)])
+def test_long_pages(width, unit, program, tmp_path):
+    """The documents of a page of 14,400 points and of longer ones say the same. Ghostscript, which knows the unit of a page, finds
+    a line from its lower left corner to its right side as long as the page, but for 0.01 points."""
+    words = ["--profile=full", f"--width={width}", "--height=64"]
+    pdf, _ = checked(program, words, f"PU0,0;PD{width},0;".encode(), tmp_path)
+    assert pdf.count(b"/UserUnit") == (unit > 1) and (unit == 1 or b"/UserUnit %d" % unit in pdf)
+    left, _, right, _ = box_of_pdf(tmp_path / "plan.pdf")
+    assert left == 0 and abs(right - width * 72 / 1016) < 0.01

@@ -266,7 +266,7 @@ def test_same_bytes_again(program):
 def test_no_overwriting(program, tmp_path):
     """A plot that is refused leaves the old document, and a good one replaces it."""
     write(str(tmp_path / "a.plt"), LINE)
-    write(str(tmp_path / "far.plt"), b"PD99999,0;")
+    write(str(tmp_path / "far.plt"), b"PD8388607.9,0;")
     for command in VECTORS:
         write(str(tmp_path / f"out.{command}"), OLD)
         words = ["draw", "-o", f"out.{command}"]

@@ -25,8 +25,8 @@ from shared import assert_nothing, read, run, write
 SECONDS = 10
 LINE = b"SP1;PU0,28;PD64,28;"
 FILES = {
-    "line.plt": LINE, "--left": LINE, " line.plt": LINE, "line.plt ": LINE, "far.plt": b"PA70000,0;",
-    "edge.plt": b"PU-65536,0;PD;",
+    "line.plt": LINE, "--left": LINE, " line.plt": LINE, "line.plt ": LINE, "far.plt": b"PA8388607.9,0;",
+    "edge.plt": b"PU-8388607,0;PD;",
 }
 
 # What a run must end with: the exit status, and how standard error begins.
@@ -53,6 +53,7 @@ SIZE_AND_DOTS = (2, b"plotraster: --size may not be given with --dots\n")
 SIZE_OF_PCL = (2, b"plotraster: --size may not be given with the form pcl\n")
 NO_SHEETS = (2, b"plotraster: --sheet needs --profile full\n")
 BAD_CHARACTERS = (2, b"plotraster: bad characters: use roman-8, latin-1, windows-1252, pc-8, ascii or utf-8\n")
+NO_LONG_PAGE = messages.refused("long-page")
 NO_CHARACTERS = (2, b"plotraster: --characters needs --profile full\n")
 NOT_OF_PCL = messages.refused("resolution")
 PAST_THE_END = messages.refused("first-row")
@@ -61,17 +62,18 @@ NOT_A_FOLDER = messages.refused("output", "line.plt", "not-a-folder")
 NOT_WRITTEN = messages.refused("output", "folder", "Is a directory (os error 21)")
 
 COMMANDS = [*DOCUMENTS, *FORMS, "report"]
+LONGEST_OF_CORE = 65536
 # A page of 64 by 64 units: 6 rows at the default resolution.
 SMALL = ["--width=64", "--height=64"]
 ROWS = 6
 PAGE_RANGES = {
-    "--width": (64, 65536), "--height": (64, 65536), "--left": (0, 65536), "--below": (0, 65536),
+    "--width": (64, 524288), "--height": (64, 524288), "--left": (0, 65536), "--below": (0, 65536),
 }
 PAPERS = [
     "a0", "a1", "a2", "a3", "a4", "a5", "b4", "letter", "legal", "tabloid",
     "ansi-a", "ansi-b", "ansi-c", "ansi-d", "ansi-e", "arch-d", "arch-e",
 ]
-PICTURE_RANGES = {"--dots": (10, 1200), "--band": (1, 4096), "--from": (0, 99999), "--rows": (1, 400000)}
+PICTURE_RANGES = {"--dots": (10, 1200), "--band": (1, 4096), "--from": (0, 619237), "--rows": (1, 400000)}
 RANGES = {**PAGE_RANGES, **PICTURE_RANGES}
 PCL_DOTS = [75, 100, 150, 200, 300, 600]
 # As many letters as Linux lets a word have, nearly.
@@ -118,6 +120,8 @@ def numbers_in_range():
     """The ends of each range, with and without a sign, zeros before them, and an equals sign."""
     for name, (low, high) in RANGES.items():
         small = [it for it in SMALL if not it.startswith(name)]
+        # Only a page of the profile full has the greatest sides.
+        small += ["--profile=full"] if high > LONGEST_OF_CORE else []
         for number in [low, low + 1, high]:
             ends = PAST_THE_END if name == "--from" and number > ROWS else DONE
             for text in [f"{number}", f"+{number}", f"000{number}"]:
@@ -126,7 +130,11 @@ def numbers_in_range():
         if low == 0:
             yield ["pbm", f"{name}=-0"], DONE
         if name in PAGE_RANGES:
-            yield ["report", f"{name}={high}"], DONE
+            yield ["report", f"{name}={min(high, LONGEST_OF_CORE)}"], DONE
+            yield ["report", "--profile=full", f"{name}={high}"], DONE
+            ends = NO_LONG_PAGE if high > LONGEST_OF_CORE else USAGE
+            yield ["report", f"{name}={LONGEST_OF_CORE + 1}", "missing.plt"], ends
+            yield ["draw", "--profile=core", f"{name}={LONGEST_OF_CORE + 1}", "--margin=1"], ends
 
 
 def numbers_out_of_range():
@@ -270,7 +278,7 @@ def turned_pages():
             yield [command, "--rotate", degrees, "line.plt", *quiet], DONE
             yield [command, "--page=a5", "line.plt", f"--rotate={degrees}", "--fit"], DONE
             ends = TOO_FAR if degrees in ("180", "270") and command != "report" else DONE
-            yield [command, "--page=a4", f"--rotate={degrees}", "edge.plt", *quiet], ends
+            yield [command, "--page=a4", "--profile=full", f"--rotate={degrees}", "edge.plt", *quiet], ends
         for word in ["", " ", "1", "45", "360", "-90", "+90", "090", "90.0", "90 ", "0\n", "ninety", "left", "\u0669\u0660"]:
             yield [command, f"--rotate={word}", "line.plt"], BAD_ROTATION
 
@@ -510,8 +518,8 @@ def orders_of_refusal():
     yield ["report", "--rotate=1", "missing.plt"], BAD_ROTATION
     yield ["svg", "--rotate=1", "line.plt", "far.plt"], BAD_ROTATION
     yield ["pbm", "--rotate=180", "far.plt"], OFF_RANGE
-    yield ["pbm", "--rotate=180", "--from=99999", "edge.plt"], TOO_FAR
-    yield ["pcl", "--rotate=180", "--dots=127", "edge.plt"], NOT_OF_PCL
+    yield ["pbm", "--profile=full", "--rotate=180", "--from=99999", "edge.plt"], TOO_FAR
+    yield ["pcl", "--profile=full", "--rotate=180", "--dots=127", "edge.plt"], NOT_OF_PCL
     yield ["pbm", "--pens=0", "--dots=9"], USAGE
     yield ["pbm", "--dots=9", "missing.plt"], USAGE
     yield ["pbm", "--pens=0", "missing.plt"], BAD_LIST

@@ -34,6 +34,13 @@ def said_of_pdf(data, path):
             yield f"{command[0]}: status {done.returncode}, {said}"
 
 
+def box_of_pdf(path):
+    """The box of what Ghostscript draws of the first page of a PDF, in points: left, below, right, above."""
+    command = ["gs", "-q", "-dSAFER", "-dBATCH", "-dNOPAUSE", "-dLastPage=1", "-sDEVICE=bbox", path]
+    done = subprocess.run(command, capture_output=True, check=True, timeout=SECONDS)
+    return list(map(float, done.stderr.split(b"%%HiResBoundingBox:")[1].split()[:4]))
+
+
 def said_of_svg(data):
     """What other programs find wrong with an SVG."""
     for command in (["xmllint", "--noout", "-"], ["rsvg-convert", "-f", "svg"]):

@@ -8,6 +8,7 @@ from typing import NamedTuple
 
 from . import carousel, messages
 from .carousel import Carousel
+from .fitting import LONGEST_OF_CORE
 from .geometry import Page
 from .pen_lists import pens_of
 
@@ -20,10 +21,10 @@ MOST_DOTS = 1200
 MOST_SMOOTHING = 8
 # Each option's range and what it is by default.
 PAGE_OPTIONS = {
-    "width": (64, 65536, 11880), "height": (64, 65536, 8400), "left": (0, 65536, 0), "below": (0, 65536, 0),
+    "width": (64, 524288, 11880), "height": (64, 524288, 8400), "left": (0, 65536, 0), "below": (0, 65536, 0),
 }
 PICTURE_OPTIONS = {"dots": (10, 1200, 100)}
-ROW_OPTIONS = {"band": (1, 4096, 64), "from": (0, 99999, 0), "rows": (1, 400_000, None)}
+ROW_OPTIONS = {"band": (1, 4096, 64), "from": (0, 619_237, 0), "rows": (1, 400_000, None)}
 SMOOTH_OPTIONS = {"smooth": (1, MOST_SMOOTHING, 1)}
 # Without `fit` there may be no margin.
 FIT_OPTIONS = {"margin": (0, 100, 1)}
@@ -179,6 +180,8 @@ def with_sheet(request, options):
         for name in ("sheet", "characters"):
             if name in options:
                 raise Mistake(f"--{name} needs --profile full")
+        if max(request.page.width, request.page.height) > LONGEST_OF_CORE:
+            raise Mistake(messages.text("long-page"))
         return request
     if "sheet" not in options and request.is_draw and (request.folder or request.form == "pdf"):
         text = EACH

@@ -9,12 +9,12 @@ import itertools
 from typing import NamedTuple
 
 from .geometry import NO_WINDOW, Page, whole_page
-from .plotter import FARTHEST
+from .plotter import FARTHEST_END
 from .shapes import is_area, placed, strokes_of
 
 UNIT = 16
 MILLIMETRE = 640
-SHORTEST, LONGEST = 64, 65_536
+SHORTEST, LONGEST_OF_CORE, LONGEST = 64, 65_536, 524_288
 BLANK = "blank-to-fit"
 TOO_LARGE = "too-large-to-fit"
 
@@ -27,8 +27,8 @@ class Fitted(NamedTuple):
     why: str = None
 
 
-def fitted(shapes, page, margin):
-    """The page around shapes, with a margin of so many millimetres, and the shapes on it."""
+def fitted(shapes, page, margin, longest=LONGEST_OF_CORE):
+    """The page around shapes, with a margin of so many millimetres and no side over the longest, and the shapes on it."""
     strokes = [stroke for shape in shapes for stroke in strokes_of(shape)]
     boxes = [box for box in (box_of(shape, page) for shape in shapes) if box]
     if not boxes:
@@ -38,7 +38,7 @@ def fitted(shapes, page, margin):
     x, width = side(around[0], around[2], margin)
     y, height = side(around[1], around[3], margin)
     corner = UNIT * x, UNIT * y
-    if max(width, height) > LONGEST or any(is_far(stroke, corner) for stroke in strokes):
+    if max(width, height) > longest or any(is_far(stroke, corner) for stroke in strokes):
         return Fitted(page, shapes, TOO_LARGE)
     shown = Page(width, height, page.left - x, page.below - y)
     return Fitted(shown, [moved(shape, page, shown, corner) for shape in shapes])
@@ -77,7 +77,7 @@ def side(least, greatest, margin):
 
 def is_far(stroke, corner):
     """Whether an end of a stroke is out of range, if places are counted from this corner."""
-    return any(abs(place - start) > FARTHEST for end in (stroke.a, stroke.b) for place, start in zip(end, corner))
+    return any(abs(place - start) > FARTHEST_END for end in (stroke.a, stroke.b) for place, start in zip(end, corner))
 
 
 def moved(shape, page, shown, corner):

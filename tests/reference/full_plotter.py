@@ -20,7 +20,7 @@ from .full_settings import (
 )
 from .geometry import sign, turned, turned_about, turns
 from .labels import rows_of
-from .plotter import LONGEST_PLOT, MOST_STROKES, USUAL_WIDTH, Bad, Refused, Stroke, listed, whole
+from .plotter import FARTHEST_END, LONGEST_PLOT, MOST_STROKES, USUAL_WIDTH, Bad, Refused, Stroke, listed, whole
 from .polygons import Buffer
 from .shapes import Area
 
@@ -63,6 +63,8 @@ class Dashes(NamedTuple):
 
 class FullPlotter(FullSettings):
     """A plotter of the profile full."""
+
+    farthest = FARTHEST_END
 
     def __init__(self, page, carousel=EMPTY, most=MOST_STROKES):
         self.most = most  # the most strokes and edges

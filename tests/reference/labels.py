@@ -11,7 +11,7 @@ from .cutting import rounded
 from .directions import moved
 
 # A number of a place is cut to this range, on both sides of 0.
-FARTHEST = 2**20
+FARTHEST = 8_388_607 * 16
 REPLACEMENT = 0xFFFD
 # Code points that XML has not, and the first one that a font of a PDF has not.
 NOT_IN_XML = (0xFFFE, 0xFFFF)

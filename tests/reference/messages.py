@@ -9,6 +9,7 @@ MESSAGES = {
     "first-row": (2, "first row is past the last row"),
     "resolution": (2, "resolution is not one of PCL's"),
     "too-far-to-turn": (2, "a line leads too far from the page to be turned"),
+    "long-page": (2, "--width and --height over 65536 need --profile full"),
     "too-fine": (2, "--dots times --smooth is over 1200"),
     "pens": (2, "bad pen list"),
     "profile": (2, "bad profile"),

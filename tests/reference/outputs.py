@@ -11,7 +11,7 @@ from .carousel import EMPTY
 from .command_line import DOTS_OF_PCL, EACH, MOST_DOTS, PAGE_OPTIONS, VECTORS, Mistake, request_of
 from .dxf import drawing_of
 from .dxf_groups import bytes_of
-from .fitting import BLANK, TOO_LARGE, UNIT, fitted, is_off
+from .fitting import BLANK, LONGEST, LONGEST_OF_CORE, TOO_LARGE, UNIT, fitted, is_off
 from .geometry import Page
 from .labels import groups_of, rows_moved, texts_of
 from .plotter import Refused
@@ -103,7 +103,7 @@ def shown_by(request, plot):
         shapes = [shape for shape in shapes if shape.pen in request.pens]
     if request.margin is not None:
         given = page
-        page, shapes, why = fitted(shapes, given, request.margin)
+        page, shapes, why = fitted(shapes, given, request.margin, longest_in(request))
         by = UNIT * (page.left - given.left), UNIT * (page.below - given.below)
         drawing = drawing._replace(labels=[rows_moved(rows, *by) for rows in drawing.labels])
     if request.form != "report":
@@ -117,6 +117,11 @@ def shown_by(request, plot):
     return Shown(page, drawing._replace(shapes=shapes), dots, smooth, why, lines)
 
 
+def longest_in(request):
+    """The longest side of a page in the profile of a request."""
+    return LONGEST_OF_CORE if request.sheet is None else LONGEST
+
+
 def asked_page(plot, request):
     """The page of the first valid PS, or None; without a width it is as high as the default page."""
     items = cutting.items if request.sheet is None else full_cutting.items
@@ -127,8 +132,8 @@ def asked_page(plot, request):
             except cutting.BadFrom:
                 continue
             sides = [cutting.rounded(number, cutting.MILLION) for number in numbers[:2]]
-            least, most, height = PAGE_OPTIONS["height"]
-            if sides and all(least <= side <= most for side in sides):
+            least, _, height = PAGE_OPTIONS["height"]
+            if sides and all(least <= side <= longest_in(request) for side in sides):
                 return request.page._replace(width=sides[0], height=(sides[1:] or [height])[0])
     return None
 

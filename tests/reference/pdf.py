@@ -21,6 +21,8 @@ TOKEN = re.compile(
     rb"[ \n]*(?:(?P<mark><<|>>|\[|\])|/(?P<name>[A-Za-z0-9]+)|\((?P<text>[ -'*-\[\]-~]*)\)|<(?P<digits>(?:[0-9A-Fa-f]{2})*)>"
     rb"|(?P<object>[1-9][0-9]*) 0 R|(?P<number>(?:0|[1-9][0-9]*)(?:\.[0-9]*[1-9])?))")
 ENDS = {b"<<": re.compile(rb"[ \n]*>>"), b"[": re.compile(rb"[ \n]*\]")}
+# The longest side of a page whose unit is one point, in plotter units: 14,400 points.
+LONGEST = 203_200
 # What is rounded to three decimals is nearer than this.
 HALF_A_THOUSANDTH = Fraction(1, 2000)
 
@@ -61,8 +63,12 @@ def read_pdf(data):
     must(values(named, *(f"P{pen}" for pen in layers)) == groups, f"the properties {named}")
     must(count == len(references(kids)) >= 1, f"{len(kids)} pages instead of {count}")
     must(isinstance(box, list) and len(box) == 4 and box[:2] == [0, 0], f"the box {box}")
-    width, height = map(units_of, box[2:])
-    found = [shapes_of(content_of(objects, kid, pages), width, height) for kid in kids]
+    contents = [content_of(objects, kid, pages) for kid in kids]
+    unit, *units = (unit for unit, _ in contents)
+    must(set(units) <= {unit}, f"units of {[unit, *units]} points")
+    width, height = (units_of(side, unit) for side in box[2:])
+    must(unit == -(-max(width, height) // LONGEST), f"a unit of {unit} points")
+    found = [shapes_of(content, width, height, unit) for _, content in contents]
     sheets = [shapes for shapes, _ in found]
     must({it.pen for shapes in sheets for it in shapes} == set(layers), "a layer without a shape, or a shape without one")
     characters = fonts_of(objects, resources.get("Font"))
@@ -195,19 +201,22 @@ def pen_of(layer):
     return int(name[4:])
 
 
-def units_of(points):
-    """A side of a page in plotter units, of which 1,016 are 72 points."""
-    must(isinstance(points, Fraction), f"a side of {points}")
-    units = round(points * 1016 / 72)
-    must(abs(points - Fraction(72 * units, 1016)) <= HALF_A_THOUSANDTH, f"a side of {points} points")
+def units_of(side, unit):
+    """A side of a page in plotter units, of which 1,016 are 72 points, by its length in units of so many points."""
+    must(isinstance(side, Fraction), f"a side of {side}")
+    units = round(side * unit * 1016 / 72)
+    must(abs(side - Fraction(72 * units, 1016 * unit)) <= HALF_A_THOUSANDTH, f"a side of {side} units of {unit} points")
     return units
 
 
 def content_of(objects, reference, parent):
-    """The operators of a page."""
-    above, contents = values(objects.at(reference, "Page"), "Parent", "Contents")
+    """The unit of a page in points, which is written if it is not one, and its operators."""
+    page = objects.at(reference, "Page")
+    must("UserUnit" not in page or page["UserUnit"] in (2, 3), f"the unit of {page}")
+    unit = page.pop("UserUnit", 1)
+    above, contents = values(page, "Parent", "Contents")
     must(above == parent, "a page of other pages")
-    return objects.stream(contents)
+    return unit, objects.stream(contents)
 
 
 def names_of(info):

@@ -38,10 +38,11 @@ class Row(NamedTuple):
     pieces: list
 
 
-def shapes_of(content, width, height):
-    """The lines and areas that the operators of a page of so many plotter units draw, and the lines of text that they write."""
+def shapes_of(content, width, height, unit):
+    """The lines and areas that the operators of a page of so many plotter units, whose own unit is so many points, draw, and the
+    lines of text that they write."""
     must(content.endswith(b"\n"), "no end of the last line")
-    page = Content((0, 0, 16 * width, 16 * height))
+    page = Content((0, 0, 16 * width, 16 * height), GRAIN / unit)
     for line in content[:-1].split(b"\n"):
         operands, _, operator = line.rpartition(b" ")
         must(operator in OPERATORS, f"the operator {line[:60]}")
@@ -70,8 +71,8 @@ def colour_of(operands):
 class Content:
     """What operators have set and drawn."""
 
-    def __init__(self, whole):
-        self.whole = whole
+    def __init__(self, whole, grain):
+        self.whole, self.grain = whole, grain
         self.begun = set()
         self.pen, self.set, self.saved = None, Set(), None
         self.rectangle, self.is_clip = None, False
@@ -86,7 +87,7 @@ class Content:
 
     def scale(self, operands):
         found = SCALE.fullmatch(operands)
-        self.begin("cm", found and abs(Fraction(found[1].decode()) - GRAIN) <= ROUNDED_GRAIN)
+        self.begin("cm", found and abs(Fraction(found[1].decode()) - self.grain) <= ROUNDED_GRAIN)
 
     def line_ends(self, operands):
         self.begin("J", operands == b"1")

@@ -17,7 +17,8 @@ from .geometry import (
 
 LONGEST_PLOT = 67_108_864
 MOST_STROKES = 4_194_304
-FARTHEST = 65_536 * 16
+FARTHEST = 65_536 * 16  # that a place of the profile core may lie from the page's corner
+FARTHEST_END = 8_388_607 * 16  # that an end of a line of any plot may
 USUAL_WIDTH = 224
 USUAL_SIZE = (1216, 1728)
 USUAL_CHORD = 5_000
@@ -92,6 +93,8 @@ def within(number, least, most):
 
 class Plotter:
     """A plotter: what is set, where its pen is, and what it has drawn and noted."""
+
+    farthest = FARTHEST
 
     def __init__(self, page, carousel=EMPTY):
         self.page, self.carousel, self.strokes, self.notes = page, carousel, [], []
@@ -280,7 +283,7 @@ class Plotter:
         )
 
     def in_range(self, place):
-        if max(abs(place[0]), abs(place[1])) > FARTHEST:
+        if max(abs(place[0]), abs(place[1])) > self.farthest:
             raise Refused(messages.text("off-range", self.at))
         return place
 

@@ -103,6 +103,7 @@ class FullWriter(AreaWriter):
     """Writes one case of the profile full; it may have very many strokes."""
 
     themes, drawing = THEMES, DRAWING
+    farthest = (65_536, 8_388_607, 8_388_607)
 
     def settings(self):
         form, options = super().settings()

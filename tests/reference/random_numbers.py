@@ -24,6 +24,9 @@ def coded(number, base, length=1):
 class Numbers:
     """Chooses numbers for one plot."""
 
+    # How far places may be from the corner of the page, in units.
+    farthest = (65_536,)
+
     def __init__(self, seed):
         self.random = random.Random(seed)
         # The page, in plotter units; the options of the case set it.
@@ -69,7 +72,7 @@ class Numbers:
         """A coordinate near the edge of the range, or beyond it."""
         if self.chance(20):
             return self.random.randint(-8_388_607, 8_388_607) * MILLION + self.pick(0, 999_999)
-        return self.pick(-1, 1) * 65_536 * MILLION + self.pick(0, 0, 1, -1, 31_249, 31_250, 31_251, -31_250)
+        return self.pick(-1, 1) * self.pick(*self.farthest) * MILLION + self.pick(0, 0, 1, -1, 31_249, 31_250, 31_251, -31_250)
 
     def place(self):
         return [self.coordinate(0), self.coordinate(1)]

@@ -108,14 +108,15 @@ class Writer(Numbers):
         if "from" in options and options["rotate"] in ("90", "270"):
             columns, rows = count(self.height, self.dots), count(self.width, self.dots)
             options["from"] = str(self.random.randint(max(0, rows - max(1, MOST_PIXELS // columns)), rows))
-        if self.chance(80):
+        if self.chance(70):
             return case._replace(options=options)
         x, y = (self.far_place(side) - left for side, left in ((self.width, self.left), (self.height, self.below)))
         return case._replace(options=options, plot=b"IW0,0,1,1;PU%d,%d;PD;IW;PU0,0;" % (x, y) + case.plot)
 
     def far_place(self, side):
         """A place on an axis, in units: mostly at the end of the range, or where a turn puts it there."""
-        return self.pick(0, side, 65_536, -65_536, side - 65_536, side - 65_537, side - 65_535)
+        far = self.pick(*self.farthest)
+        return self.pick(0, side, far, -far, -far, side - far, side - far - 1, side - far - 1, side - far + 1)
 
     # Options
 

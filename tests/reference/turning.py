@@ -7,7 +7,7 @@ it. Places are in grains.
 from . import messages
 from .geometry import NO_WINDOW, on_the_page
 from .labels import rows_at
-from .plotter import FARTHEST, Refused
+from .plotter import FARTHEST_END, Refused
 from .shapes import placed, strokes_of
 
 
@@ -48,4 +48,4 @@ class Turn:
 
 def is_far(stroke):
     """Whether an end of a stroke is out of range."""
-    return max(map(abs, (*stroke.a, *stroke.b))) > FARTHEST
+    return max(map(abs, (*stroke.a, *stroke.b))) > FARTHEST_END

@@ -91,7 +91,7 @@ all_below r y (n ∷ ns) h =
     All-cons (IsInRow r (y -ℤ pos 16256)) (below n) (map below ns) (in_row_below r y n (All-head (IsInRow r y) n ns h))
     (all_below r y ns (All-tail (IsInRow r y) n ns h))
 
-pub all_somewhere : (r : ℕ) (y : ℤ) → r ≤ 1200 → nat_abs y ≤ 2 ^ 32 → (near : List SweptEdge) → All (IsInRow r y) near → All IsSomewhere near
+pub all_somewhere : (r : ℕ) (y : ℤ) → r ≤ 1200 → nat_abs y ≤ 2 ^ 34 → (near : List SweptEdge) → All (IsInRow r y) near → All IsSomewhere near
 all_somewhere r y few by [] h = All-nil IsSomewhere
 all_somewhere r y few by (n ∷ ns) h =
     All-cons IsSomewhere n ns (record { r = r; y = y; few = few; near = by; in_row = All-head (IsInRow r y) n ns h })

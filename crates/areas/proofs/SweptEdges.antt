@@ -1,8 +1,9 @@
 -- An edge in a row, and in the row below.
-use Rattle.std.proofs.Common.{◌≡◌, ℕ, ◌^◌, ◌<◌, ◌≤◌, Bool, true, false, not, ◌&&◌, nat_le, inl, inr, ◌⊎◌, refl, sym, ap, ap₂, ◌∙◌, arith, ℤ, pos, nat_abs, ◌+ℤ◌, ◌-ℤ◌, ◌*ℤ◌, ◌≤ℤ◌, ◌<ℤ◌, int_le, int_lt}
+use Rattle.std.proofs.Common.{◌≡◌, ℕ, ◌*◌, ◌^◌, ◌<◌, ◌≤◌, Bool, true, false, not, ◌&&◌, nat_le, inl, inr, ◌⊎◌, refl, sym, ap, ap₂, ◌∙◌, arith, ℤ, pos, nat_abs, ◌+ℤ◌, ◌-ℤ◌, ◌*ℤ◌, ◌≤ℤ◌, ◌<ℤ◌, int_le, int_lt}
 use Rattle.std.proofs.lemmas.Bool.{cases_Bool}
 use Rattle.std.proofs.lemmas.Int.{ints, unsigned_abs-mul}
 use Rattle.std.proofs.lemmas.Nat.{mul-le}
+use Rattle.std.proofs.Math.Nat.{le_of_mul-le-mul_left, mul_comm}
 use Rattle.std.specs.Int.{int_div_euclid}
 use Rattle.exact.proofs.Fit.{product_within}
 use Rattle.exact.proofs.Ring.{mul_assoc_z, mul_comm_z, mul_left_comm_z, mul-add_z, mul-sub_z, sub-mul_z}
@@ -136,39 +137,49 @@ factor_within a b m some h =
     let g = mul-le (nat_abs a) 1 (nat_abs a) (nat_abs b) (omega arith) f in
     omega (arith, e, g, h)
 
+-- and by as much less as the other is at least
+pub factor_many : (a b : ℤ) (k m : ℕ) → 0 < k → pos k ≤ℤ b → nat_abs (a *ℤ b) ≤ k * m → nat_abs a ≤ m
+factor_many a b k m some many h =
+    let e = unsigned_abs-mul a b in
+    let f : k ≤ nat_abs b = omega (arith, ints, many) in
+    let g = mul-le (nat_abs a) k (nat_abs a) (nat_abs b) (omega arith) f in
+    let c = mul_comm k (nat_abs a) in
+    let l : k * nat_abs a ≤ k * m = omega (arith, e, g, h, c) in
+    le_of_mul-le-mul_left {m = nat_abs a} {n = m} {k = k} l some
+
 -- how large its numbers are
-module _ (r : ℕ) (y : ℤ) (n : SweptEdge) (few : r ≤ 1200) (near : nat_abs y ≤ 2 ^ 32) (h : IsInRow r y n) where
-  pub step_within : nat_abs n.step ≤ 2 ^ 22
+module _ (r : ℕ) (y : ℤ) (n : SweptEdge) (few : r ≤ 1200) (near : nat_abs y ≤ 2 ^ 34) (h : IsInRow r y n) where
+  pub step_within : nat_abs n.step ≤ 2 ^ 29
   step_within =
-      factor_within n.step (n.by -ℤ n.ay) (2 ^ 22) (omega (arith, ints, h.rising))
+      factor_within n.step (n.by -ℤ n.ay) (2 ^ 29) (omega (arith, ints, h.rising))
       (omega (arith, ints, h.slope, h.rest_low, h.rest_high, h.ax, h.bx, h.ay, h.by))
 
-  place_within : nat_abs (place_of (pos r *ℤ n.ax) (y -ℤ pos r *ℤ n.ay) (n.bx -ℤ n.ax) (n.by -ℤ n.ay)) ≤ 2 ^ 56
+  place_within : nat_abs (place_of (pos r *ℤ n.ax) (y -ℤ pos r *ℤ n.ay) (n.bx -ℤ n.ax) (n.by -ℤ n.ay)) ≤ 2 ^ 68
   place_within =
       let rn : nat_abs (pos r) ≤ 1200 = omega (arith, ints, few) in
-      let a = product_within (pos r) n.ax 1200 (2 ^ 20) rn h.ax in
-      let b = product_within (pos r) n.ay 1200 (2 ^ 20) rn h.ay in
-      let run : nat_abs (n.bx -ℤ n.ax) ≤ 2 ^ 21 = omega (arith, ints, h.ax, h.bx) in
-      let rise : nat_abs (n.by -ℤ n.ay) ≤ 2 ^ 21 = omega (arith, ints, h.ay, h.by) in
-      let c = product_within (pos r *ℤ n.ax -ℤ pos 8128) (n.by -ℤ n.ay) (2 ^ 32) (2 ^ 21) (omega (arith, ints, a)) rise in
-      let d = product_within (n.bx -ℤ n.ax) (y -ℤ pos r *ℤ n.ay) (2 ^ 21) (2 ^ 33) run (omega (arith, ints, b, near)) in
+      let a = product_within (pos r) n.ax 1200 (2 ^ 27) rn (omega (arith, h.ax)) in
+      let b = product_within (pos r) n.ay 1200 (2 ^ 27) rn (omega (arith, h.ay)) in
+      let run : nat_abs (n.bx -ℤ n.ax) ≤ 2 ^ 28 = omega (arith, ints, h.ax, h.bx) in
+      let rise : nat_abs (n.by -ℤ n.ay) ≤ 2 ^ 28 = omega (arith, ints, h.ay, h.by) in
+      let c = product_within (pos r *ℤ n.ax -ℤ pos 8128) (n.by -ℤ n.ay) (2 ^ 38) (2 ^ 28) (omega (arith, ints, a)) rise in
+      let d = product_within (n.bx -ℤ n.ax) (y -ℤ pos r *ℤ n.ay) (2 ^ 28) (2 ^ 39) run (omega (arith, ints, b, near)) in
       omega (arith, ints, c, d)
 
   pub column_within : nat_abs n.column ≤ 2 ^ 57
   column_within =
-      let some : pos 0 <ℤ pixel_of n = omega (arith, ints, h.rising) in
-      factor_within n.column (pixel_of n) (2 ^ 57) some
+      let some : pos 16256 ≤ℤ pixel_of n = omega (arith, ints, h.rising) in
+      factor_many n.column (pixel_of n) 16256 (2 ^ 57) (omega arith) some
       (omega (arith, ints, h.first, place_within, h.short_low, h.short_high, h.ay, h.by))
 
 -- and the rest of them
 module _ (r : ℕ) (y : ℤ) (n : SweptEdge) (h : IsInRow r y n) where
-  pub pixel_within : nat_abs (pixel_of n) ≤ 2 ^ 35
+  pub pixel_within : nat_abs (pixel_of n) ≤ 2 ^ 42
   pixel_within = omega (arith, ints, h.ay, h.by)
 
-  pub short_within : nat_abs n.short ≤ 2 ^ 35
+  pub short_within : nat_abs n.short ≤ 2 ^ 42
   short_within = omega (arith, ints, h.short_low, h.short_high, pixel_within)
 
-  pub rest_within : nat_abs n.rest ≤ 2 ^ 21
+  pub rest_within : nat_abs n.rest ≤ 2 ^ 28
   rest_within = omega (arith, ints, h.rest_low, h.rest_high, h.ay, h.by)
 
 -- which of its places an edge passes, as it was given
@@ -209,7 +220,7 @@ module _ (r : ℕ) (e : Segment) (n : SweptEdge) where
   }
 
 -- an edge that leads from a lower end to an upper one, in a row, by two divisions
-pub divided_edge : (r : ℕ) (y : ℤ) (n : SweptEdge) (times : ℤ) → nat_abs n.ax ≤ 2 ^ 20 → nat_abs n.ay ≤ 2 ^ 20 → nat_abs n.bx ≤ 2 ^ 20 → nat_abs n.by ≤ 2 ^ 20
+pub divided_edge : (r : ℕ) (y : ℤ) (n : SweptEdge) (times : ℤ) → nat_abs n.ax ≤ 134217712 → nat_abs n.ay ≤ 134217712 → nat_abs n.bx ≤ 134217712 → nat_abs n.by ≤ 134217712
     → n.ay <ℤ n.by → n.step *ℤ (n.by -ℤ n.ay) +ℤ n.rest ≡ n.bx -ℤ n.ax → pos 0 ≤ℤ n.rest → n.rest <ℤ (n.by -ℤ n.ay) → n.column ≡ pos 0 -ℤ times
     → times *ℤ pixel_of n +ℤ n.short ≡ pos 0 -ℤ place_of (pos r *ℤ n.ax) (y -ℤ pos r *ℤ n.ay) (n.bx -ℤ n.ax) (n.by -ℤ n.ay)
     → pos 0 ≤ℤ n.short → n.short <ℤ pixel_of n → IsInRow r y n

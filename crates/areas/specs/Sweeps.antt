@@ -30,10 +30,10 @@ pixel_of n = pos 16256 *ℤ (n.by -ℤ n.ay)
 
 -- what holds of an edge in the row at height y
 pub record IsInRow (r : ℕ) (y : ℤ) (n : SweptEdge) : Type 0 where
-  pub ax : nat_abs n.ax ≤ 2 ^ 20
-  pub ay : nat_abs n.ay ≤ 2 ^ 20
-  pub bx : nat_abs n.bx ≤ 2 ^ 20
-  pub by : nat_abs n.by ≤ 2 ^ 20
+  pub ax : nat_abs n.ax ≤ 134217712
+  pub ay : nat_abs n.ay ≤ 134217712
+  pub bx : nat_abs n.bx ≤ 134217712
+  pub by : nat_abs n.by ≤ 134217712
   pub rising : n.ay <ℤ n.by
   pub slope : n.step *ℤ (n.by -ℤ n.ay) +ℤ n.rest ≡ n.bx -ℤ n.ax
   pub rest_low : pos 0 ≤ℤ n.rest
@@ -53,10 +53,10 @@ pub record IsFrom (r : ℕ) (y a b c d : ℤ) (is_upward : Bool) (n : SweptEdge)
 
 -- what holds of an edge to which no row has come
 pub record IsWaiting (n : SweptEdge) : Type 0 where
-  pub ax : nat_abs n.ax ≤ 2 ^ 20
-  pub ay : nat_abs n.ay ≤ 2 ^ 20
-  pub bx : nat_abs n.bx ≤ 2 ^ 20
-  pub by : nat_abs n.by ≤ 2 ^ 20
+  pub ax : nat_abs n.ax ≤ 134217712
+  pub ay : nat_abs n.ay ≤ 134217712
+  pub bx : nat_abs n.bx ≤ 134217712
+  pub by : nat_abs n.by ≤ 134217712
   pub rising : n.ay <ℤ n.by
 
 abbrev pub waiting_from : ℤ → ℤ → ℤ → ℤ → Bool → SweptEdge
@@ -68,7 +68,7 @@ pub record IsSomewhere (n : SweptEdge) : Type 0 where
   pub r : ℕ
   pub y : ℤ
   pub few : r ≤ 1200
-  pub near : nat_abs y ≤ 2 ^ 32
+  pub near : nat_abs y ≤ 2 ^ 34
   pub in_row : IsInRow r y n
 
 -- the same edge in the row below, which is 16,256 steps lower

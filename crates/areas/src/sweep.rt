@@ -86,7 +86,7 @@ impl AreaSweep {
     /// below.
     pub fn next_row(&mut self, rule: Rule, dots: Dots, height: i64, columns: u32)
         requires follows { IsSweeping dots.resolution height self.old }
-        requires near { nat_abs height ≤ 2 ^ 32 }
+        requires near { nat_abs height ≤ 2 ^ 34 }
         ensures inside { (edges : List Segment) (low : ℤ) → Follows dots.resolution edges low height self.old → low ≤ℤ height →
             (k : ℕ) → k < columns →
             is_in_any (found_in self.new) k ≡ is_inside_area rule dots.resolution edges (centre_of_column k) height }
@@ -158,7 +158,7 @@ fn edges_near(edges: &[Stroke], dots: Dots, bottom: i64, top: i64, room: &mut [S
 // Comes to the row at a height with the edges before `end`, of which the first ones wait. Answers how many wait still.
 fn start_among(near: &mut [SweptEdge], waiting: usize, end: usize, dots: Dots, height: i64) -> usize
     requires sweeping { IsSweepingAmong dots.resolution height near.old waiting end }
-    requires near { nat_abs height ≤ 2 ^ 32 }
+    requires near { nat_abs height ≤ 2 ^ 34 }
     ensures swept { (edges : List Segment) (low : ℤ)
         → AreSwept dots.resolution edges low height (take waiting near.old) (drop waiting (take end near.old))
         → AreSwept dots.resolution edges low height (take result near.new) (drop result (take end near.new)) }
@@ -173,7 +173,7 @@ fn start_among(near: &mut [SweptEdge], waiting: usize, end: usize, dots: Dots, h
 // Answers how many wait still.
 fn start(near: &mut [SweptEdge], waiting: usize, dots: Dots, height: i64) -> usize
     requires sweeping { IsSweepingOver dots.resolution height near.old waiting }
-    requires near { nat_abs height ≤ 2 ^ 32 }
+    requires near { nat_abs height ≤ 2 ^ 34 }
     ensures swept { (edges : List Segment) (low : ℤ)
         → AreSwept dots.resolution edges low height (take waiting near.old) (drop waiting near.old)
         → AreSwept dots.resolution edges low height (take result near.new) (drop result near.new) }
@@ -191,7 +191,7 @@ fn start(near: &mut [SweptEdge], waiting: usize, dots: Dots, height: i64) -> usi
 // The same, but for the order.
 fn come(near: &mut [SweptEdge], waiting: usize, dots: Dots, height: i64) -> usize
     requires sweeping { IsSweepingOver dots.resolution height near.old waiting }
-    requires near { nat_abs height ≤ 2 ^ 32 }
+    requires near { nat_abs height ≤ 2 ^ 34 }
     ensures swept { (edges : List Segment) (low : ℤ)
         → AreSwept dots.resolution edges low height (take waiting near.old) (drop waiting near.old)
         → AreSwept dots.resolution edges low height (take result near.new) (drop result near.new) }

@@ -2,6 +2,7 @@
 ghost use Rattle.std.specs.Prelude.{◌≡◌, ◌≤◌, ◌^◌, nat_abs, pos, ◌+ℤ◌, ◌-ℤ◌, ◌*ℤ◌, ◌<ℤ◌, ◌≤ℤ◌};
 ghost use Rattle.areas.specs.Sweeps.{IsFrom, IsSomewhere, IsSweptAs, IsWaiting, below, place_of, waiting_from};
 
+use exact::{floored, product};
 use plot_page::{Dots, Stroke};
 
 /// An edge that has a height, from its lower end (`ax`, `ay`) to its upper one (`bx`, `by`), in grains; and where it is in a row of
@@ -62,7 +63,7 @@ impl SweptEdge {
     /// The edge in the row at a height.
     pub fn placed(self, dots: Dots, height: i64) -> SweptEdge
         requires waiting { IsWaiting self }
-        requires near { nat_abs height ≤ 2 ^ 32 }
+        requires near { nat_abs height ≤ 2 ^ 34 }
         ensures { IsFrom dots.resolution height self.ax self.ay self.bx self.by self.is_upward result }
     {
         SweptEdge::between(
@@ -86,19 +87,19 @@ impl SweptEdge {
         dots: Dots,
         height: i64,
     ) -> SweptEdge
-        requires low_x { nat_abs ax ≤ 2 ^ 20 }
-        requires low_y { nat_abs ay ≤ 2 ^ 20 }
-        requires high_x { nat_abs bx ≤ 2 ^ 20 }
-        requires high_y { nat_abs by ≤ 2 ^ 20 }
+        requires low_x { nat_abs ax ≤ 134217712 }
+        requires low_y { nat_abs ay ≤ 134217712 }
+        requires high_x { nat_abs bx ≤ 134217712 }
+        requires high_y { nat_abs by ≤ 134217712 }
         requires rising { ay <ℤ by }
-        requires near { nat_abs height ≤ 2 ^ 32 }
+        requires near { nat_abs height ≤ 2 ^ 34 }
         ensures { IsFrom dots.resolution height ax ay bx by is_upward result }
     {
         let run = difference(ax, bx);
         let rise = difference(ay, by);
         let slope = divide_down(run, rise);
         let place = place_of(scaled(dots, ax), height - scaled(dots, ay), run, rise);
-        let before = divide_down(-place, pixel_of(ay, by));
+        let before = divide_far(-place, pixel_of(ay, by));
         SweptEdge {
             ax,
             ay,
@@ -138,15 +139,15 @@ impl SweptEdge {
 
 // How far right of the left edge of the page a line that begins at x is, so far above its lower end, less half a pixel: in steps
 // times its rise.
-fn place_of(x: i64, above: i64, run: i64, rise: i64) -> i64
-    requires right { nat_abs x ≤ 2 ^ 31 }
-    requires above { nat_abs above ≤ 2 ^ 33 }
-    requires run { nat_abs run ≤ 2 ^ 21 }
-    requires rise { nat_abs rise ≤ 2 ^ 21 }
+fn place_of(x: i64, above: i64, run: i64, rise: i64) -> i128
+    requires right { nat_abs x ≤ 2 ^ 38 }
+    requires above { nat_abs above ≤ 2 ^ 39 }
+    requires run { nat_abs run ≤ 2 ^ 28 }
+    requires rise { nat_abs rise ≤ 2 ^ 28 }
     ensures value { result ≡ place_of x above run rise }
-    ensures within { nat_abs result ≤ 2 ^ 56 }
+    ensures within { nat_abs result ≤ 2 ^ 68 }
 {
-    (x - 8128) * rise + run * above
+    product(x - 8128, rise) + product(run, above)
 }
 
 // How often a number holds another, and what is left.
@@ -159,7 +160,7 @@ struct Divided {
 fn divide_down(a: i64, b: i64) -> Divided
     requires within { nat_abs a ≤ 2 ^ 56 }
     requires above { pos 0 <ℤ b }
-    requires below { nat_abs b ≤ 2 ^ 36 }
+    requires below { nat_abs b ≤ 2 ^ 42 }
     ensures is { result.times *ℤ b +ℤ result.rest ≡ a }
     ensures low { pos 0 ≤ℤ result.rest }
     ensures high { result.rest <ℤ b }
@@ -172,31 +173,48 @@ fn divide_down(a: i64, b: i64) -> Divided
     }
 }
 
+// The same, of a number that may not fit 64 bits.
+fn divide_far(a: i128, b: i64) -> Divided
+    requires within { nat_abs a ≤ 2 ^ 68 }
+    requires above { pos 16256 ≤ℤ b }
+    requires below { nat_abs b ≤ 2 ^ 42 }
+    ensures is { result.times *ℤ b +ℤ result.rest ≡ a }
+    ensures low { pos 0 ≤ℤ result.rest }
+    ensures high { result.rest <ℤ b }
+    ensures within { nat_abs result.times ≤ 2 ^ 56 }
+{
+    let times = floored(a, i128::from(b)) as i64;
+    Divided {
+        times,
+        rest: (a - product(times, b)) as i64,
+    }
+}
+
 // The way from a coordinate to another, in grains.
 fn difference(from: i32, to: i32) -> i64
-    requires from { nat_abs from ≤ 2 ^ 20 }
-    requires to { nat_abs to ≤ 2 ^ 20 }
+    requires from { nat_abs from ≤ 134217712 }
+    requires to { nat_abs to ≤ 134217712 }
     ensures value { result ≡ to -ℤ from }
-    ensures within { nat_abs result ≤ 2 ^ 21 }
+    ensures within { nat_abs result ≤ 2 ^ 28 }
 {
     i64::from(to) - i64::from(from)
 }
 
 // A pixel, times the rise of an edge.
 fn pixel_of(low: i32, high: i32) -> i64
-    requires low { nat_abs low ≤ 2 ^ 20 }
-    requires high { nat_abs high ≤ 2 ^ 20 }
+    requires low { nat_abs low ≤ 134217712 }
+    requires high { nat_abs high ≤ 134217712 }
     ensures value { result ≡ pos 16256 *ℤ (high -ℤ low) }
-    ensures within { nat_abs result ≤ 2 ^ 35 }
+    ensures within { nat_abs result ≤ 2 ^ 42 }
 {
     16256 * difference(low, high)
 }
 
 /// A coordinate in grains, in steps.
 pub fn scaled(dots: Dots, grains: i32) -> i64
-    requires { nat_abs grains ≤ 2 ^ 20 }
+    requires { nat_abs grains ≤ 134217712 }
     ensures value { result ≡ pos dots.resolution *ℤ grains }
-    ensures within { nat_abs result ≤ 2 ^ 31 }
+    ensures within { nat_abs result ≤ 2 ^ 38 }
 {
     i64::from(dots.per_inch()) * i64::from(grains)
 }

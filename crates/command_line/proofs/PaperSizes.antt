@@ -1,5 +1,5 @@
 -- What the lists of papers have for a name.
-use Rattle.std.proofs.Common.{◌≡◌, ◌≢◌, ◌∙◌, ◌<◌, ◌≤◌, ℕ, Bool, List, [], ◌∷◌, ◌++◌, Option, Some, None, true, false, length, map, refl, ap, sym, arith, codes, rules}
+use Rattle.std.proofs.Common.{◌&&◌, ◌≡◌, ◌≢◌, ◌∙◌, ◌<◌, ◌≤◌, ℕ, Bool, List, [], ◌∷◌, ◌++◌, Option, Some, None, true, false, length, map, refl, ap, sym, arith, codes, rules}
 use Rattle.std.specs.Prelude.{find, option_map}
 use Rattle.std.specs.Bool.{one_answer}
 use Rattle.std.specs.Option.{option_or, IfSome}
@@ -9,7 +9,7 @@ use Rattle.std.proofs.lemmas.List.{append_cancel_right, length-append}
 use Rattle.std.proofs.lemmas.List.Folds.{find-append}
 use Rattle.std.proofs.lemmas.Slice.Eq.{bytes_eq-Decides}
 use Rattle.clap.specs.Words.{Text}
-use Rattle.plot_page.specs.Pages.{has_page_size}
+use Rattle.plot_page.specs.Pages.{is_roll_side}
 use Rattle.command_line.specs.Papers.{landscape_of, names_plot, paper_of, papers, portrait, size_in, size_named}
 
 abbrev Paper : Type 0
@@ -86,28 +86,28 @@ paper_with_suffix name front is =
     ∙ ap (λ (o : Option (ℕ × ℕ)). option_or o (size_in (map portrait papers) name)) (longer_than_all papers name all_short long)
     ∙ ap (size_in (map portrait papers)) is ∙ with_suffix papers front
 
-all_fit : AllByRecursion (λ (it : Paper). has_page_size it.1.0 it.1.1 ≡ true) (papers ++ map portrait papers)
+all_fit : AllByRecursion (λ (it : Paper). (is_roll_side it.1.0 && is_roll_side it.1.1) ≡ true) (papers ++ map portrait papers)
 all_fit = search rules
 
-found_fits : (its : List Paper) (name : Text) → AllByRecursion (λ (it : Paper). has_page_size it.1.0 it.1.1 ≡ true) its
-    → IfSome (size_in its name) (λ size. has_page_size size.0 size.1 ≡ true)
+found_fits : (its : List Paper) (name : Text) → AllByRecursion (λ (it : Paper). (is_roll_side it.1.0 && is_roll_side it.1.1) ≡ true) its
+    → IfSome (size_in its name) (λ size. (is_roll_side size.0 && is_roll_side size.1) ≡ true)
 found_fits [] name all = tt
 found_fits (it ∷ its) name all = branch (bytes_eq it.0 name) refl (found_fits its name all.1)
   where
-    branch : (b : Bool) → bytes_eq it.0 name ≡ b → IfSome (size_in its name) (λ size. has_page_size size.0 size.1 ≡ true)
-        → IfSome (size_in (it ∷ its) name) (λ size. has_page_size size.0 size.1 ≡ true)
+    branch : (b : Bool) → bytes_eq it.0 name ≡ b → IfSome (size_in its name) (λ size. (is_roll_side size.0 && is_roll_side size.1) ≡ true)
+        → IfSome (size_in (it ∷ its) name) (λ size. (is_roll_side size.0 && is_roll_side size.1) ≡ true)
     branch true same later = rw same all.0
     branch false other later = rw other later
 
 -- the size of each paper is one of a page
-pub paper_fits : (name : Text) → IfSome (paper_of name) (λ size. has_page_size size.0 size.1 ≡ true)
+pub paper_fits : (name : Text) → IfSome (paper_of name) (λ size. (is_roll_side size.0 && is_roll_side size.1) ≡ true)
 paper_fits name = found_fits (papers ++ map portrait papers) name all_fit
 
 -- so is the size that a name gives
-pub named_fits : (name : Text) → IfSome (size_named name) (λ size. has_page_size size.0 size.1 ≡ true)
+pub named_fits : (name : Text) → IfSome (size_named name) (λ size. (is_roll_side size.0 && is_roll_side size.1) ≡ true)
 named_fits name = branch (names_plot name) refl (paper_fits name)
   where
-    branch : (b : Bool) → names_plot name ≡ b → IfSome (paper_of name) (λ size. has_page_size size.0 size.1 ≡ true)
-        → IfSome (size_named name) (λ size. has_page_size size.0 size.1 ≡ true)
+    branch : (b : Bool) → names_plot name ≡ b → IfSome (paper_of name) (λ size. (is_roll_side size.0 && is_roll_side size.1) ≡ true)
+        → IfSome (size_named name) (λ size. (is_roll_side size.0 && is_roll_side size.1) ≡ true)
     branch true same fits = rw same refl
     branch false other fits = rw other fits

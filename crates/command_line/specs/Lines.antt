@@ -7,6 +7,7 @@ use Rattle.std.specs.Str.Parse.{digits_value, without_leading_plus}
 use Rattle.clap.specs.Words.{Row, Text, all_of, first_of, one_of, subcommand_rows_of}
 use Rattle.clap.specs.declared.parser.matches.ArgMatches.{ArgMatches}
 use Rattle.plot_page.specs.declared.page.Page.{Page}
+use Rattle.plot_page.specs.declared.page.TheConstants.{LONGEST_SIDE}
 use Rattle.plot_page.specs.declared.pens.PenSet.{PenSet}
 use Rattle.plot_page.specs.Pens.{has_pen}
 use Rattle.command_line.specs.Parses.{HasGoodMatches}
@@ -44,7 +45,7 @@ use Rattle.command_line.specs.declared.destination.Destination.{Destination}
 use Rattle.command_line.specs.declared.destination.Destination.TheVariants.{File, Folder}
 use Rattle.command_line.specs.declared.fault.LineFault.{LineFault}
 use Rattle.command_line.specs.declared.fault.LineFault.TheVariants.{Pens, Shades, Smooth, Paper, Size, Profile, Sheet}
-use Rattle.command_line.specs.declared.fault.LineFault.TheVariants.{BadCharacters, BadSheet, BadTurn, Characters, Form as NoForm, Margin, NoFolder, NoPicture, NoPixels, Pixels, PrinterPixels, Several}
+use Rattle.command_line.specs.declared.fault.LineFault.TheVariants.{BadCharacters, BadSheet, BadTurn, Characters, LongPage, Form as NoForm, Margin, NoFolder, NoPicture, NoPixels, Pixels, PrinterPixels, Several}
 use Rattle.command_line.specs.declared.line.Line.{Line}
 use Rattle.command_line.specs.declared.line.Task.{Task}
 use Rattle.command_line.specs.declared.line.Task.TheVariants.{Picture, Report}
@@ -430,6 +431,13 @@ has_stray_sheet rows = has_profile rows (codes "core") && is_given rows (codes "
 abbrev pub has_stray_characters : List Row → Bool
 has_stray_characters rows = has_profile rows (codes "core") && is_given rows (codes "characters")
 
+-- a side of the page is given that is longer than those of the profile core
+abbrev pub is_long : List Row → Text → Bool
+is_long rows name = option_map_or (λ n. nat_lt LONGEST_SIDE n) (number_in rows name) false
+
+abbrev pub has_stray_length : List Row → Bool
+has_stray_length rows = has_profile rows (codes "core") && (is_long rows (codes "width") || is_long rows (codes "height"))
+
 -- what is wrong with how the plot is to be read
 abbrev pub reading_fault : List Row → Option LineFault
 reading_fault rows =
@@ -437,7 +445,8 @@ reading_fault rows =
     if not (is_some (encoding_of rows)) then Some BadCharacters else
     if has_bad_profile rows then Some Profile else
     if has_stray_sheet rows then Some Sheet else
-    if has_stray_characters rows then Some Characters else None
+    if has_stray_characters rows then Some Characters else
+    if has_stray_length rows then Some LongPage else None
 
 -- what is wrong with the choice of the page
 abbrev pub choice_fault : Kind → List Row → Option LineFault

@@ -105,8 +105,8 @@ profile = record (option (codes "profile") group.All Word) {
 -- all options, in the order of the help
 abbrev pub options : List OptionRow
 options =
-    option (codes "width") group.All (Number 64 65536)
-    ∷ option (codes "height") group.All (Number 64 65536)
+    option (codes "width") group.All (Number 64 524288)
+    ∷ option (codes "height") group.All (Number 64 524288)
     ∷ option (codes "page") group.All Word
     ∷ option_or (codes "0") (codes "left") group.All (Number 0 65536)
     ∷ option_or (codes "0") (codes "below") group.All (Number 0 65536)
@@ -128,7 +128,7 @@ options =
     ∷ option (codes "form") group.Draw Word
     ∷ option (codes "quiet") group.Draw Flag
     ∷ option_or (codes "64") (codes "band") group.Rows (Number 1 4096)
-    ∷ option_or (codes "0") (codes "from") group.Rows (Number 0 99999)
+    ∷ option_or (codes "0") (codes "from") group.Rows (Number 0 619237)
     ∷ option (codes "rows") group.Rows (Number 1 400000)
     ∷ []
 

@@ -62,6 +62,9 @@ pub enum LineFault<'a> {
     /// `--characters` is given with the profile core, which reads labels as ASCII.
     #[error("--characters needs --profile full")]
     Characters,
+    /// A width or a height is given that only a page of the profile full has.
+    #[error("--width and --height over 65536 need --profile full")]
+    LongPage,
     /// A report on each sheet is asked for.
     #[error("--sheet each needs a picture")]
     NoPicture,

@@ -1,8 +1,8 @@
 //! The page that a command line asks for, and the pixels of its picture.
-ghost use Rattle.std.specs.Prelude.{◌≡◌, ◌≢◌, ◌||◌, None, Some, Err, IfOk, true, false, codes, is_some};
+ghost use Rattle.std.specs.Prelude.{◌≡◌, ◌≢◌, ◌&&◌, ◌||◌, None, Some, Err, IfOk, true, false, codes, is_some};
 ghost use Rattle.std.specs.Result.{result_err};
 ghost use Rattle.clap.specs.Words.{found_of, rows_of};
-ghost use Rattle.plot_page.specs.Pages.{has_page_size};
+ghost use Rattle.plot_page.specs.Pages.{is_roll_side};
 ghost use Rattle.command_line.specs.Lines.{IsChoiceOf, IsPageOf, choice_fault, gives_page, has_paper_and_side, is_for_printers, names_page};
 ghost use Rattle.command_line.specs.Lines.{number_in, page_fault, page_size, pixels_fault};
 ghost use Rattle.command_line.specs.Readings.{HasNumbers, MayHaveNumber, paper_or_fault};
@@ -28,7 +28,7 @@ pub(crate) fn page_of<'a>(options: &ArgMatches<'a>) -> Result<Page, LineFault<'a
     let (width, height) = size_of(options)?;
     let left = number_of(options, "left")?;
     let below = number_of(options, "below")?;
-    Page::new(width, height, left, below).map_err(|_| LineFault::Words)
+    Page::roll(width, height, left, below).ok_or(LineFault::Words)
 }
 
 // The width and the height of the page. By default they are those of A4 in landscape.
@@ -37,7 +37,7 @@ fn size_of<'a>(options: &ArgMatches<'a>) -> Result<(u32, u32), LineFault<'a>>
     ensures one_way { IfOk result (λ _. has_paper_and_side (rows_of (found_of options.now)) ≡ false) }
     ensures pens { result ≢ Err LineFault.Pens }
     ensures within { HasNumbers (rows_of (found_of options.now)) →
-        IfOk result (λ size. has_page_size size.0 size.1 ≡ true) }
+        IfOk result (λ size. (is_roll_side size.0 && is_roll_side size.1) ≡ true) }
     ensures refused { HasNumbers (rows_of (found_of options.now)) →
         result_err result ≡ page_fault (rows_of (found_of options.now)) }
 {

@@ -2,26 +2,27 @@
 ghost use Rattle.std.specs.Prelude.{◌≡◌, ◌≢◌, ◌&&◌, not, Err, IfOk, None};
 ghost use Rattle.std.specs.Result.{result_err};
 ghost use Rattle.clap.specs.Words.{found_of, rows_of};
-ghost use Rattle.command_line.specs.Lines.{IsReadingOf, asks_each, each_fault, has_pages, is_report, reading_fault, sheet_in};
-ghost use Rattle.command_line.specs.Readings.{HasProfile};
+ghost use Rattle.command_line.specs.Lines.{IsReadingOf, asks_each, each_fault, has_pages, is_long, is_report, reading_fault, sheet_in};
+ghost use Rattle.command_line.specs.Readings.{HasNumbers, HasProfile, MayHaveNumber};
 ghost use Rattle.command_line.specs.Sheets.{is_each, sheet_named, sheet_number};
 
 use crate::characters::encoding_of;
 use crate::fault::LineFault;
 use crate::line::written;
 use crate::subcommands::{Kind, Output};
-use crate::values::is_given;
+use crate::values::{is_given, number_if_given};
 use clap::ArgMatches;
 use picture_job::{Reading, VectorFormat};
+use plot_page::LONGEST_SIDE;
 
 // The greatest sheet that may be asked for.
 const GREATEST_SHEET: i64 = 4_194_304;
 
-/// The profile, and in the profile full the sheet and the characters.
+/// The profile, and in the profile full the sheet and the characters. Only a page of the profile full is longer than 65,536 units.
 pub(crate) fn reading_of<'a>(options: &ArgMatches<'a>) -> Result<Reading, LineFault<'a>>
     ensures reading { IfOk result (IsReadingOf (rows_of (found_of options.now))) }
     ensures pens { result ≢ Err LineFault.Pens }
-    ensures refused { HasProfile (rows_of (found_of options.now)) →
+    ensures refused { HasProfile (rows_of (found_of options.now)) → HasNumbers (rows_of (found_of options.now)) →
         result_err result ≡ reading_fault (rows_of (found_of options.now)) }
 {
     let sheet = sheet_of(options).ok_or(LineFault::BadSheet)?;
@@ -39,7 +40,21 @@ pub(crate) fn reading_of<'a>(options: &ArgMatches<'a>) -> Result<Reading, LineFa
     if is_given(options, "characters") {
         return Err(LineFault::Characters);
     }
+    if is_long(options, "width") || is_long(options, "height") {
+        return Err(LineFault::LongPage);
+    }
     Ok(Reading::Core)
+}
+
+// Whether an option for a side of the page says that it is longer than those of the profile core.
+fn is_long(options: &ArgMatches<'_>, name: &str) -> bool
+    ensures { MayHaveNumber (rows_of (found_of options.now)) name.now 64 524288 →
+        result ≡ is_long (rows_of (found_of options.now)) name.now }
+{
+    match number_if_given(options, name) {
+        Ok(Some(units)) => units > LONGEST_SIDE,
+        Ok(None) | Err(_) => false,
+    }
 }
 
 // The sheet that is asked for: 0 for all of them, or the first one if none is given; `None` if the text asks for none.

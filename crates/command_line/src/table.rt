@@ -45,12 +45,13 @@ static OPTIONS: [OptionRow<'static>; 25] = [
         short: None,
         aliases: &[],
         group: Group::All,
-        value: Value::Number(64, 65536),
+        value: Value::Number(64, 524288),
         defaults: &[],
         value_name: "UNITS",
         help: &[(
             Group::All,
-            "Width of the page in plotter units of 1/40 mm, 64 to 65536 (11880 is A4's 297 mm) [default: 11880]",
+            "Width of the page in plotter units of 1/40 mm, 64 to 65536, with --profile full to 524288 (11880 is A4's 297 mm) [default: \
+             11880]",
         )],
     },
     OptionRow {
@@ -58,12 +59,13 @@ static OPTIONS: [OptionRow<'static>; 25] = [
         short: None,
         aliases: &[],
         group: Group::All,
-        value: Value::Number(64, 65536),
+        value: Value::Number(64, 524288),
         defaults: &[],
         value_name: "UNITS",
         help: &[(
             Group::All,
-            "Height of the page in plotter units of 1/40 mm, 64 to 65536 (8400 is A4's 210 mm) [default: 8400]",
+            "Height of the page in plotter units of 1/40 mm, 64 to 65536, with --profile full to 524288 (8400 is A4's 210 mm) [default: \
+             8400]",
         )],
     },
     OptionRow {
@@ -395,12 +397,12 @@ static OPTIONS: [OptionRow<'static>; 25] = [
         short: None,
         aliases: &[],
         group: Group::Rows,
-        value: Value::Number(0, 99999),
+        value: Value::Number(0, 619237),
         defaults: &[(Group::All, "0")],
         value_name: "ROW",
         help: &[(
             Group::All,
-            "First row of pixels to write, counted from 0 at the top, 0 to 99999; only row 0 comes with a header",
+            "First row of pixels to write, counted from 0 at the top, 0 to 619237; only row 0 comes with a header",
         )],
     },
     OptionRow {

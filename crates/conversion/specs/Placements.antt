@@ -48,35 +48,35 @@ no_corner = record { x = pos 0; y = pos 0 }
 abbrev pub place_on : Placement → Page → Place
 place_on placement page = record { placement = placement; drawn_on = page; corner = no_corner; page = page }
 
--- strokes of shapes that are seen so far have a page around them, with this margin: its corner, and the page. All of them can be
--- moved to it
-pub record IsAround (pens : PenSet) (margin : ℕ) (strokes : List Segment) (e : Extent) (corner : Corner)
+-- strokes of shapes that are seen so far have a page around them whose sides are no longer than the longest, with this margin: its
+-- corner, and the page. All of them can be moved to it
+pub record IsAround (longest : ℕ) (pens : PenSet) (margin : ℕ) (strokes : List Segment) (e : Extent) (corner : Corner)
     (page : Page) : Type 0 where
   pub corner_is : corner ≡ corner_around margin e
-  pub sides : sides_around margin e ≡ Some (sides_of page)
+  pub sides : sides_around longest margin e ≡ Some (sides_of page)
   pub movable : are_movable pens corner strokes ≡ true
 
 -- they have none
-abbrev pub HasNoPage : PenSet → ℕ → List Segment → Extent → Type 0
-HasNoPage pens margin strokes e = (corner : Corner) (page : Page) → IsAround pens margin strokes e corner page → ⊥
+abbrev pub HasNoPage : ℕ → PenSet → ℕ → List Segment → Extent → Type 0
+HasNoPage longest pens margin strokes e = (corner : Corner) (page : Page) → IsAround longest pens margin strokes e corner page → ⊥
 
 -- a picture of shapes that are drawn on a page shows the page around what the selected pens draw, or, for one of two
 -- reasons, the page that they are drawn on
-abbrev pub IsFitted : PenSet → ℕ → Page → ShapeList → Placement → Corner → Page → Type 0
-IsFitted pens margin drawn_on shapes Fitted corner page =
-    (e : Extent) × (shapes_extent pens drawn_on shapes ≡ Some e) × IsAround pens margin shapes.strokes e corner page
-IsFitted pens margin drawn_on shapes Blank corner page =
+abbrev pub IsFitted : ℕ → PenSet → ℕ → Page → ShapeList → Placement → Corner → Page → Type 0
+IsFitted longest pens margin drawn_on shapes Fitted corner page =
+    (e : Extent) × (shapes_extent pens drawn_on shapes ≡ Some e) × IsAround longest pens margin shapes.strokes e corner page
+IsFitted longest pens margin drawn_on shapes Blank corner page =
     (corner ≡ no_corner) × (page ≡ drawn_on) × (shapes_extent pens drawn_on shapes ≡ None)
-IsFitted pens margin drawn_on shapes TooLarge corner page =
+IsFitted longest pens margin drawn_on shapes TooLarge corner page =
     (corner ≡ no_corner) × (page ≡ drawn_on)
-    × ((e : Extent) × (shapes_extent pens drawn_on shapes ≡ Some e) × HasNoPage pens margin shapes.strokes e)
-IsFitted pens margin drawn_on shapes _ corner page = ⊥
+    × ((e : Extent) × (shapes_extent pens drawn_on shapes ≡ Some e) × HasNoPage longest pens margin shapes.strokes e)
+IsFitted longest pens margin drawn_on shapes _ corner page = ⊥
 
 -- a picture lies there, by the margin if its page is to be fitted; else it shows the page that its plot is drawn on
 abbrev pub IsPlacedBy : Option ℕ → PageChoice → Rules → PenSet → Page → List ℕ → Place → Type 0
 IsPlacedBy (Some margin) choice rules pens given plot place =
     IsFirstPage choice rules given plot place.drawn_on
-    × IsFitted pens margin place.drawn_on (shapes_by rules place.drawn_on plot) place.placement place.corner place.page
+    × IsFitted rules.longest pens margin place.drawn_on (shapes_by rules place.drawn_on plot) place.placement place.corner place.page
 IsPlacedBy None choice rules pens given plot place =
     IsDrawnOn choice.asked rules given plot place.placement place.drawn_on
     × (place.corner ≡ no_corner) × (place.page ≡ place.drawn_on)
@@ -106,6 +106,7 @@ placed_rules rules pens place = record {
   sheets = λ page plot. rules.sheets place.drawn_on plot;
   ends = λ page plot. rules.ends place.drawn_on plot;
   asked = rules.asked;
+  longest = rules.longest;
   labels = λ page plot. labels_at place.placement place.corner (rules.labels place.drawn_on plot);
 }
 

@@ -17,7 +17,7 @@ use Rattle.full_plot.specs.Labels.{labels_of, labels_of_sheet}
 use Rattle.full_notes.specs.Notes as full
 use Rattle.labels.specs.Labels.{LabelShape}
 use Rattle.page_fit.specs.Around.{Sides}
-use Rattle.plot_size.specs.Sizes.{sides_asked}
+use Rattle.plot_size.specs.Sizes.{longest_side, sides_asked}
 use Rattle.plot_page.specs.Segments.{Segment}
 use Rattle.plot_page.specs.declared.page.Page.{Page}
 use Rattle.picture_job.specs.declared.job.Job.{Job}
@@ -41,6 +41,7 @@ pub record Rules : Type 0 where
   pub sheets : Page → List ℕ → ℕ
   pub ends : Page → List ℕ → List ℕ
   pub asked : Page → List ℕ → Option Sides
+  pub longest : ℕ
   pub labels : Page → List ℕ → List LabelShape
 
 -- what is noted on a plot in the profile core
@@ -57,6 +58,7 @@ core_rules = record {
   sheets = λ page plot. 0;
   ends = λ page plot. [];
   asked = sides_asked profile.Core;
+  longest = longest_side profile.Core;
   labels = λ page plot. [];
 }
 
@@ -81,6 +83,7 @@ full_rules sheet encoding carousel =
       sheets = λ page plot. sheet_count (ends_in (drawn page plot)) (length (strokes_in (drawn page plot)));
       ends = λ page plot. ends_of sheet (ends_in (drawn page plot));
       asked = sides_asked profile.Full;
+      longest = longest_side profile.Full;
       labels = λ page plot. labels_of_sheet (labels_of encoding carousel page plot) (ends_in (drawn page plot))
           (length (strokes_in (drawn page plot))) sheet;
     }

@@ -2,7 +2,7 @@
 ghost use Rattle.std.specs.Prelude.{◌≡◌, ◌≤◌, ℕ, List, length, true, false, IfOk, IfErr, IfSome, IfNone};
 ghost use Rattle.areas.specs.Views.{shapes_in};
 ghost use Rattle.carousel.specs.declared.carousel.Carousel.{Carousel};
-ghost use Rattle.plot_size.specs.Sizes.{sides_asked};
+ghost use Rattle.plot_size.specs.Sizes.{longest_side, sides_asked};
 ghost use Rattle.page_fit.specs.Around.{corner_around};
 ghost use Rattle.page_fit.specs.Extents.{IsNear};
 ghost use Rattle.page_fit.specs.Moves.{IsCornerNear, are_movable};
@@ -27,7 +27,7 @@ use page_fit::{Corner, Extent, are_movable, corner_around, extent_of, move_strok
 use picture_job::Reading;
 use plot_page::{Page, PenSet, Stroke};
 use plot_report::ReportPage;
-use plot_size::page_asked;
+use plot_size::{longest_side, page_asked};
 use std::alloc::Global;
 
 // The corner of a page, from itself.
@@ -102,7 +102,10 @@ pub fn draw_placed(
         keeps_labels,
     )?;
     Ok(match setup.choice.margin {
-        Some(margin) => fitted(margin, pens, first, lines),
+        Some(margin) => {
+            let longest = longest_side(profile_of(setup.reading));
+            fitted(longest, margin, pens, first, lines)
+        }
         None => unmoved(placement, first, lines),
     })
 }
@@ -130,7 +133,8 @@ fn asked_or_given(reading: Reading, page: &Page, text: &[u8]) -> (Placement, Pag
 
 // The profile by which a plot is read.
 fn profile_of(reading: Reading) -> Profile
-    ensures { (page : Page) (plot : List ℕ) → (carousel : Carousel) → (rules_with reading carousel).asked page plot ≡ sides_asked result page plot }
+    ensures asked { (page : Page) (plot : List ℕ) → (carousel : Carousel) → (rules_with reading carousel).asked page plot ≡ sides_asked result page plot }
+    ensures longest { (carousel : Carousel) → (rules_with reading carousel).longest ≡ longest_side result }
 {
     match reading {
         Reading::Core => Profile::Core,
@@ -154,10 +158,12 @@ fn unmoved(placement: Placement, page: Page, lines: Lines) -> Drawing
     }
 }
 
-// A picture that shows the page around these lines, which a plot draws on a page, if there is one.
-fn fitted(margin: u32, pens: PenSet, page: Page, lines: Lines) -> Drawing
+// A picture that shows the page around these lines, which a plot draws on a page, if there is one whose sides are no longer than
+// the longest one.
+fn fitted(longest: u32, margin: u32, pens: PenSet, page: Page, lines: Lines) -> Drawing
+    requires { longest ≤ 524288 }
     ensures drawn_on { result.drawn_on ≡ page }
-    ensures fitted { IsFitted pens margin page (record { strokes = lines.strokes.items; areas = lines.areas.items })
+    ensures fitted { IsFitted longest pens margin page (record { strokes = lines.strokes.items; areas = lines.areas.items })
         result.placement result.corner result.page }
     ensures named { result.named ≡ page_reported (place_of result) }
     ensures lines { AreMoved pens lines (place_of result) result.lines }
@@ -168,7 +174,7 @@ fn fitted(margin: u32, pens: PenSet, page: Page, lines: Lines) -> Drawing
     let Some(corner) = corner_of(margin, pens, extent, lines.strokes.as_slice()) else {
         return unmoved(Placement::TooLarge, page, lines);
     };
-    let Some(around) = page_around(margin, extent) else {
+    let Some(around) = page_around(longest, margin, extent) else {
         return unmoved(Placement::TooLarge, page, lines);
     };
     moved(pens, page, corner, around, lines)

@@ -9,7 +9,7 @@ numbers_of_chords : Table chords_of_bend (
     ∷ (257, 8)
     ∷ (262144, 128)
     ∷ (262145, 256)
-    ∷ (2 ^ 22, 256)  -- the greatest bend
+    ∷ (2 ^ 29, 256)  -- the greatest bend
     ∷ [])
 unfolding chords_of_bend
 numbers_of_chords = refl

@@ -10,5 +10,5 @@ IsNotZero v = 0 < nat_abs v.x + nat_abs v.y
 
 -- the start is a place, and the first direction points somewhere
 pub record IsCircle (circle : Circle) : Type 0 where
-  pub start_in : IsWithin (2 ^ 20) circle.start
+  pub start_in : IsWithin (2 ^ 27) circle.start
   pub first_above : IsNotZero circle.first

@@ -13,9 +13,9 @@ const HALVINGS: u32 = 6;
 
 /// The places that the pen reaches on the arc from a through b to c, after a, in order.
 pub fn arc_places(alloc: Global, a: Spot, b: Spot, c: Spot) -> Result<Vec<Spot>, AllocError>
-    requires a_in { IsWithin (2 ^ 20) a }
-    requires b_in { IsWithin (2 ^ 20) b }
-    requires c_in { IsWithin (2 ^ 20) c }
+    requires a_in { IsWithin (2 ^ 27) a }
+    requires b_in { IsWithin (2 ^ 27) b }
+    requires c_in { IsWithin (2 ^ 27) c }
     ensures value { IfOk result (λ places. places.items ≡ arc_places a b c) }
     ensures within { IfOk result (λ places. All (IsWithin (2 ^ 35)) places.items) }
 {

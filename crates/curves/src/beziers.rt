@@ -17,12 +17,12 @@ pub fn bezier_places(
     p2: Spot,
     p3: Spot,
 ) -> Result<Vec<Spot>, AllocError>
-    requires p0_in { IsWithin (2 ^ 20) p0 }
-    requires p1_in { IsWithin (2 ^ 20) p1 }
-    requires p2_in { IsWithin (2 ^ 20) p2 }
-    requires p3_in { IsWithin (2 ^ 20) p3 }
+    requires p0_in { IsWithin (2 ^ 27) p0 }
+    requires p1_in { IsWithin (2 ^ 27) p1 }
+    requires p2_in { IsWithin (2 ^ 27) p2 }
+    requires p3_in { IsWithin (2 ^ 27) p3 }
     ensures value { IfOk result (λ places. places.items ≡ bezier_places p0 p1 p2 p3) }
-    ensures within { IfOk result (λ places. All (IsWithin (2 ^ 20)) places.items) }
+    ensures within { IfOk result (λ places. All (IsWithin (2 ^ 27)) places.items) }
 {
     let chords = chords(greatest_bend(p0, p1, p2, p3));
     let mut places = Vec::new(alloc);
@@ -34,10 +34,10 @@ pub fn bezier_places(
 
 // The greatest bend at p1 and at p2, in x and in y.
 fn greatest_bend(p0: Spot, p1: Spot, p2: Spot, p3: Spot) -> u128
-    requires p0_in { IsWithin (2 ^ 20) p0 }
-    requires p1_in { IsWithin (2 ^ 20) p1 }
-    requires p2_in { IsWithin (2 ^ 20) p2 }
-    requires p3_in { IsWithin (2 ^ 20) p3 }
+    requires p0_in { IsWithin (2 ^ 27) p0 }
+    requires p1_in { IsWithin (2 ^ 27) p1 }
+    requires p2_in { IsWithin (2 ^ 27) p2 }
+    requires p3_in { IsWithin (2 ^ 27) p3 }
     ensures { result ≡ greatest_bend p0 p1 p2 p3 }
 {
     let first = bend(p0.x, p1.x, p2.x).max(bend(p0.y, p1.y, p2.y));
@@ -47,9 +47,9 @@ fn greatest_bend(p0: Spot, p1: Spot, p2: Spot, p3: Spot) -> u128
 
 // How far b is from the middle between a and c, twice.
 fn bend(a: i128, b: i128, c: i128) -> u128
-    requires a_in { nat_abs a ≤ 2 ^ 20 }
-    requires b_in { nat_abs b ≤ 2 ^ 20 }
-    requires c_in { nat_abs c ≤ 2 ^ 20 }
+    requires a_in { nat_abs a ≤ 2 ^ 27 }
+    requires b_in { nat_abs b ≤ 2 ^ 27 }
+    requires c_in { nat_abs c ≤ 2 ^ 27 }
     ensures { result ≡ bend_of a b c }
 {
     (a - 2 * b + c).unsigned_abs()
@@ -79,12 +79,12 @@ fn curve_place(n: u64, k: u64, p0: Spot, p1: Spot, p2: Spot, p3: Spot) -> Spot
     requires k_in { k ≤ n }
     requires above { 0 < n }
     requires n_in { n ≤ 256 }
-    requires p0_in { IsWithin (2 ^ 20) p0 }
-    requires p1_in { IsWithin (2 ^ 20) p1 }
-    requires p2_in { IsWithin (2 ^ 20) p2 }
-    requires p3_in { IsWithin (2 ^ 20) p3 }
+    requires p0_in { IsWithin (2 ^ 27) p0 }
+    requires p1_in { IsWithin (2 ^ 27) p1 }
+    requires p2_in { IsWithin (2 ^ 27) p2 }
+    requires p3_in { IsWithin (2 ^ 27) p3 }
     ensures value { result ≡ curve_place n k p0 p1 p2 p3 }
-    ensures within { IsWithin (2 ^ 20) result }
+    ensures within { IsWithin (2 ^ 27) result }
 {
     Spot {
         x: curve_coordinate(n, k, p0.x, p1.x, p2.x, p3.x),
@@ -97,12 +97,12 @@ fn curve_coordinate(n: u64, k: u64, p0: i128, p1: i128, p2: i128, p3: i128) -> i
     requires k_in { k ≤ n }
     requires above { 0 < n }
     requires n_in { n ≤ 256 }
-    requires p0_in { nat_abs p0 ≤ 2 ^ 20 }
-    requires p1_in { nat_abs p1 ≤ 2 ^ 20 }
-    requires p2_in { nat_abs p2 ≤ 2 ^ 20 }
-    requires p3_in { nat_abs p3 ≤ 2 ^ 20 }
+    requires p0_in { nat_abs p0 ≤ 2 ^ 27 }
+    requires p1_in { nat_abs p1 ≤ 2 ^ 27 }
+    requires p2_in { nat_abs p2 ≤ 2 ^ 27 }
+    requires p3_in { nat_abs p3 ≤ 2 ^ 27 }
     ensures value { result ≡ curve_coordinate n k p0 p1 p2 p3 }
-    ensures most { nat_abs result ≤ 2 ^ 20 }
+    ensures most { nat_abs result ≤ 2 ^ 27 }
 {
     rounded(
         weighed(n - k, k, p0, p1, p2, p3),
@@ -114,12 +114,12 @@ fn curve_coordinate(n: u64, k: u64, p0: i128, p1: i128, p2: i128, p3: i128) -> i
 fn weighed(l: u64, k: u64, p0: i128, p1: i128, p2: i128, p3: i128) -> i128
     requires l_in { l ≤ 256 }
     requires k_in { k ≤ 256 }
-    requires p0_in { nat_abs p0 ≤ 2 ^ 20 }
-    requires p1_in { nat_abs p1 ≤ 2 ^ 20 }
-    requires p2_in { nat_abs p2 ≤ 2 ^ 20 }
-    requires p3_in { nat_abs p3 ≤ 2 ^ 20 }
+    requires p0_in { nat_abs p0 ≤ 2 ^ 27 }
+    requires p1_in { nat_abs p1 ≤ 2 ^ 27 }
+    requires p2_in { nat_abs p2 ≤ 2 ^ 27 }
+    requires p3_in { nat_abs p3 ≤ 2 ^ 27 }
     ensures value { result ≡ weighed l k p0 p1 p2 p3 }
-    ensures most { nat_abs result ≤ (l + k) * (l + k) * (l + k) * 2 ^ 20 }
+    ensures most { nat_abs result ≤ (l + k) * (l + k) * (l + k) * 2 ^ 27 }
 {
     times(product(l, l, l), p0)
         + times(3 * product(l, l, k), p1)
@@ -141,9 +141,9 @@ fn product(a: u64, b: u64, c: u64) -> u64
 // A coordinate times its weight.
 fn times(weight: u64, p: i128) -> i128
     requires weight_in { weight ≤ 2 ^ 26 }
-    requires p_in { nat_abs p ≤ 2 ^ 20 }
+    requires p_in { nat_abs p ≤ 2 ^ 27 }
     ensures value { result ≡ pos weight *ℤ p }
-    ensures most { nat_abs result ≤ weight * 2 ^ 20 }
+    ensures most { nat_abs result ≤ weight * 2 ^ 27 }
 {
     i128::from(weight) * p
 }

@@ -34,9 +34,9 @@ pub struct Circle {
 impl Circle {
     /// The circle through three places, or `None` if they are on one line.
     pub fn through(a: Spot, b: Spot, c: Spot) -> Option<Circle>
-        requires a_in { IsWithin (2 ^ 20) a }
-        requires b_in { IsWithin (2 ^ 20) b }
-        requires c_in { IsWithin (2 ^ 20) c }
+        requires a_in { IsWithin (2 ^ 27) a }
+        requires b_in { IsWithin (2 ^ 27) b }
+        requires c_in { IsWithin (2 ^ 27) c }
         ensures value { result ≡ circle_through a b c }
         ensures sound { IfSome result IsCircle }
     {
@@ -57,8 +57,8 @@ impl Circle {
 
     // The whole circle from a through a + b back to a.
     fn whole(a: Spot, b: Spot) -> Circle
-        requires a_in { IsWithin (2 ^ 20) a }
-        requires b_in { IsWithin (2 ^ 21) b }
+        requires a_in { IsWithin (2 ^ 27) a }
+        requires b_in { IsWithin (2 ^ 28) b }
         requires not_zero { IsNotZero b }
         ensures value { result ≡ whole_circle a b }
         ensures sound { IsCircle result }
@@ -79,9 +79,9 @@ impl Circle {
     // The circle of the arc from a through a + b to a + c.
     #[tactic(auto, unfolding(crate::specs::Arcs::circle_by))]
     fn by(a: Spot, b: Spot, c: Spot) -> Circle
-        requires a_in { IsWithin (2 ^ 20) a }
-        requires b_in { IsWithin (2 ^ 21) b }
-        requires c_in { IsWithin (2 ^ 21) c }
+        requires a_in { IsWithin (2 ^ 27) a }
+        requires b_in { IsWithin (2 ^ 28) b }
+        requires c_in { IsWithin (2 ^ 28) c }
         requires apart { 0 < nat_abs (cross b c) }
         ensures value { result ≡ circle_by a b c }
         ensures sound { IsCircle result }
@@ -119,7 +119,7 @@ impl Circle {
         p: Direction,
         q: Direction,
     ) -> Result<(), AllocError>
-        requires start_in { IsWithin (2 ^ 20) self.now.start }
+        requires start_in { IsWithin (2 ^ 27) self.now.start }
         requires centre_in { IsWithin (2 ^ 40) self.now.centre }
         requires p_above { IsNotZero p }
         ensures value { IfOk result (λ _. places.new.items
@@ -138,7 +138,7 @@ impl Circle {
 
     // Where the line from the start in a direction meets the circle again.
     fn place_at(&self, direction: Direction) -> Spot
-        requires start_in { IsWithin (2 ^ 20) self.now.start }
+        requires start_in { IsWithin (2 ^ 27) self.now.start }
         requires centre_in { IsWithin (2 ^ 40) self.now.centre }
         requires above { IsNotZero direction }
         ensures value { result ≡ place_at self.now direction }
@@ -173,7 +173,7 @@ fn middle(clockwise: bool, p: Direction, q: Direction) -> Direction
 
 // A coordinate after the start's: d * along / under from it, rounded.
 fn moved(start: i128, d: i128, along: i128, under: i128) -> i128
-    requires start_in { nat_abs start ≤ 2 ^ 20 }
+    requires start_in { nat_abs start ≤ 2 ^ 27 }
     requires d_in { nat_abs d ≤ 2 ^ 30 }
     requires along_in { nat_abs along ≤ 2 ^ 72 }
     requires under_in { nat_abs under ≤ 2 ^ 70 }

@@ -158,8 +158,8 @@ fn whole_way() -> Span
 
 // How much a number is above another one.
 fn difference(number: i32, other: i32) -> i32
-    requires number { nat_abs number ≤ 1048576 }
-    requires other { nat_abs other ≤ 1048576 }
+    requires number { nat_abs number ≤ 134217712 }
+    requires other { nat_abs other ≤ 134217712 }
     ensures { result ≡ number -ℤ other }
 {
     number - other
@@ -252,8 +252,8 @@ fn point_at(stroke: &Stroke, share: Share) -> Point
 
 // A coordinate after a share of the way from `a` to `b`, rounded to a whole part.
 fn coordinate_at(a: i32, b: i32, share: Share) -> i128
-    requires a { nat_abs a ≤ 1048576 }
-    requires b { nat_abs b ≤ 1048576 }
+    requires a { nat_abs a ≤ 134217712 }
+    requires b { nat_abs b ≤ 134217712 }
     ensures { result ≡ coordinate_at a b share }
 {
     rounded(
@@ -264,19 +264,19 @@ fn coordinate_at(a: i32, b: i32, share: Share) -> i128
 
 // The share, times its divisor, of the way from `a` to `b`, from 0 on.
 fn weighted(a: i32, b: i32, share: Share) -> i128
-    requires a { nat_abs a ≤ 1048576 }
-    requires b { nat_abs b ≤ 1048576 }
+    requires a { nat_abs a ≤ 134217712 }
+    requires b { nat_abs b ≤ 134217712 }
     ensures value { result ≡ weighted a b share }
-    ensures most { nat_abs result ≤ 2 ^ 55 }
+    ensures most { nat_abs result ≤ 2 ^ 61 }
 {
     product(a, share.under) + product(difference(b, a), share.over)
 }
 
 // A number so many times.
 fn product(number: i32, times: u32) -> i128
-    requires { nat_abs number ≤ 2097152 }
+    requires { nat_abs number ≤ 268435456 }
     ensures value { result ≡ number *ℤ pos times }
-    ensures most { nat_abs result ≤ 2 ^ 54 }
+    ensures most { nat_abs result ≤ 2 ^ 60 }
 {
     i128::from(number) * i128::from(times)
 }

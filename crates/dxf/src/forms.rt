@@ -1,5 +1,5 @@
 //! How the letters of a line lie on the page.
-ghost use Rattle.std.specs.Prelude.{◌≡◌, ◌≤◌, ◌<◌, ◌^◌, ◌*◌, ◌*ℤ◌, nat_abs};
+ghost use Rattle.std.specs.Prelude.{◌≡◌, ◌≤◌, ◌<◌, ◌^◌, ◌*◌, ◌/◌, ◌*ℤ◌, nat_abs};
 ghost use Rattle.labels.specs.Labels.{IsNear};
 ghost use Rattle.dxf.specs.Forms.{cross, crossed, dot, factor_of, form_by, form_of, height_of, leaning_of, length_of, rotation_of, some_height, square, turned, way};
 
@@ -46,8 +46,8 @@ fn way(from: Place, to: Place) -> Vector
     requires from { IsNear from }
     requires to { IsNear to }
     ensures value { result ≡ way from to }
-    ensures x { nat_abs result.x ≤ 2097152 }
-    ensures y { nat_abs result.y ≤ 2097152 }
+    ensures x { nat_abs result.x ≤ 268435456 }
+    ensures y { nat_abs result.y ≤ 268435456 }
 {
     Vector {
         x: to.x - from.x,
@@ -57,10 +57,10 @@ fn way(from: Place, to: Place) -> Vector
 
 // The form of so many letters, by their line, and by the way to their top.
 fn form_by(u: Vector, v: Vector, letters: usize) -> Form
-    requires ux { nat_abs u.x ≤ 2097152 }
-    requires uy { nat_abs u.y ≤ 2097152 }
-    requires vx { nat_abs v.x ≤ 2097152 }
-    requires vy { nat_abs v.y ≤ 2097152 }
+    requires ux { nat_abs u.x ≤ 268435456 }
+    requires uy { nat_abs u.y ≤ 268435456 }
+    requires vx { nat_abs v.x ≤ 268435456 }
+    requires vy { nat_abs v.y ≤ 268435456 }
     ensures { result ≡ form_by u v letters }
 {
     let height = height_of(u, v);
@@ -77,74 +77,74 @@ fn form_by(u: Vector, v: Vector, letters: usize) -> Form
 
 // The product of two numbers of vectors.
 fn product(a: i32, b: i32) -> i64
-    requires a { nat_abs a ≤ 2097152 }
-    requires b { nat_abs b ≤ 2097152 }
+    requires a { nat_abs a ≤ 268435456 }
+    requires b { nat_abs b ≤ 268435456 }
     ensures value { result ≡ a *ℤ b }
-    ensures most { nat_abs result ≤ 2 ^ 42 }
+    ensures most { nat_abs result ≤ 2 ^ 56 }
 {
     i64::from(a) * i64::from(b)
 }
 
 fn cross(u: Vector, v: Vector) -> i64
-    requires ux { nat_abs u.x ≤ 2097152 }
-    requires uy { nat_abs u.y ≤ 2097152 }
-    requires vx { nat_abs v.x ≤ 2097152 }
-    requires vy { nat_abs v.y ≤ 2097152 }
+    requires ux { nat_abs u.x ≤ 268435456 }
+    requires uy { nat_abs u.y ≤ 268435456 }
+    requires vx { nat_abs v.x ≤ 268435456 }
+    requires vy { nat_abs v.y ≤ 268435456 }
     ensures value { result ≡ cross u v }
-    ensures most { nat_abs result ≤ 2 ^ 43 }
+    ensures most { nat_abs result ≤ 2 ^ 57 }
 {
     product(u.x, v.y) - product(u.y, v.x)
 }
 
 fn dot(u: Vector, v: Vector) -> i64
-    requires ux { nat_abs u.x ≤ 2097152 }
-    requires uy { nat_abs u.y ≤ 2097152 }
-    requires vx { nat_abs v.x ≤ 2097152 }
-    requires vy { nat_abs v.y ≤ 2097152 }
+    requires ux { nat_abs u.x ≤ 268435456 }
+    requires uy { nat_abs u.y ≤ 268435456 }
+    requires vx { nat_abs v.x ≤ 268435456 }
+    requires vy { nat_abs v.y ≤ 268435456 }
     ensures value { result ≡ dot u v }
-    ensures most { nat_abs result ≤ 2 ^ 43 }
+    ensures most { nat_abs result ≤ 2 ^ 57 }
 {
     product(u.x, v.x) + product(u.y, v.y)
 }
 
 // The size of the cross product.
 fn crossed(u: Vector, v: Vector) -> u64
-    requires ux { nat_abs u.x ≤ 2097152 }
-    requires uy { nat_abs u.y ≤ 2097152 }
-    requires vx { nat_abs v.x ≤ 2097152 }
-    requires vy { nat_abs v.y ≤ 2097152 }
+    requires ux { nat_abs u.x ≤ 268435456 }
+    requires uy { nat_abs u.y ≤ 268435456 }
+    requires vx { nat_abs v.x ≤ 268435456 }
+    requires vy { nat_abs v.y ≤ 268435456 }
     ensures value { result ≡ crossed u v }
-    ensures most { result ≤ 2 ^ 43 }
+    ensures most { result ≤ 2 ^ 57 }
 {
     cross(u, v).unsigned_abs()
 }
 
 // The size of the dot product.
 fn dotted(u: Vector, v: Vector) -> u64
-    requires ux { nat_abs u.x ≤ 2097152 }
-    requires uy { nat_abs u.y ≤ 2097152 }
-    requires vx { nat_abs v.x ≤ 2097152 }
-    requires vy { nat_abs v.y ≤ 2097152 }
+    requires ux { nat_abs u.x ≤ 268435456 }
+    requires uy { nat_abs u.y ≤ 268435456 }
+    requires vx { nat_abs v.x ≤ 268435456 }
+    requires vy { nat_abs v.y ≤ 268435456 }
     ensures value { result ≡ nat_abs (dot u v) }
-    ensures most { result ≤ 2 ^ 43 }
+    ensures most { result ≤ 2 ^ 57 }
 {
     dot(u, v).unsigned_abs()
 }
 
 // The square of the length of a vector.
 fn square(u: Vector) -> u128
-    requires x { nat_abs u.x ≤ 2097152 }
-    requires y { nat_abs u.y ≤ 2097152 }
+    requires x { nat_abs u.x ≤ 268435456 }
+    requires y { nat_abs u.y ≤ 268435456 }
     ensures value { result ≡ square u }
-    ensures most { result ≤ 2 ^ 43 }
+    ensures most { result ≤ 2 ^ 57 }
 {
     u128::from(dotted(u, u))
 }
 
 // The length of a vector, in parts.
 fn length_of(u: Vector) -> u128
-    requires x { nat_abs u.x ≤ 2097152 }
-    requires y { nat_abs u.y ≤ 2097152 }
+    requires x { nat_abs u.x ≤ 268435456 }
+    requires y { nat_abs u.y ≤ 268435456 }
     ensures value { result ≡ length_of u }
     ensures most { result < 2 ^ 64 }
 {
@@ -162,10 +162,10 @@ fn some_height(height: u128) -> u128
 
 // How far the top is from the line.
 fn height_of(u: Vector, v: Vector) -> u128
-    requires ux { nat_abs u.x ≤ 2097152 }
-    requires uy { nat_abs u.y ≤ 2097152 }
-    requires vx { nat_abs v.x ≤ 2097152 }
-    requires vy { nat_abs v.y ≤ 2097152 }
+    requires ux { nat_abs u.x ≤ 268435456 }
+    requires uy { nat_abs u.y ≤ 268435456 }
+    requires vx { nat_abs v.x ≤ 268435456 }
+    requires vy { nat_abs v.y ≤ 268435456 }
     ensures value { result ≡ height_of u v }
     ensures most { result < 2 ^ 64 }
 {
@@ -173,23 +173,28 @@ fn height_of(u: Vector, v: Vector) -> u128
     if crossed == 0 {
         some_height(length_of(v))
     } else {
-        some_height(root(square_of(u128::from(crossed)) / square(u).max(1)))
+        some_height(root(square_over(u128::from(crossed), square(u).max(1))))
     }
 }
 
-// The square of so many grains, in parts.
-fn square_of(grains: u128) -> u128
-    requires { grains ≤ 2 ^ 43 }
-    ensures { result ≡ GRAIN * grains * (GRAIN * grains) }
+// The square of so many grains, in parts, over a number: the grains are divided first, since the square may be longer than
+// 128 bits.
+fn square_over(grains: u128, number: u128) -> u128
+    requires grains { grains ≤ 2 ^ 57 }
+    requires some { 1 ≤ number }
+    requires number { number ≤ 2 ^ 57 }
+    requires few { grains * grains ≤ 2 ^ 57 * number }
+    ensures { result ≡ GRAIN * grains * (GRAIN * grains) / number }
 {
-    let parts = GRAIN * grains;
-    parts * parts
+    let square = grains * grains;
+    let whole = square / number;
+    GRAIN * GRAIN * whole + GRAIN * GRAIN * (square % number) / number
 }
 
 // The width of a letter as a share of its height.
 fn factor_of(u: Vector, letters: usize, height: u128) -> u128
-    requires x { nat_abs u.x ≤ 2097152 }
-    requires y { nat_abs u.y ≤ 2097152 }
+    requires x { nat_abs u.x ≤ 268435456 }
+    requires y { nat_abs u.y ≤ 268435456 }
     requires height { height < 2 ^ 64 }
     ensures { result ≡ factor_of u letters height }
 {
@@ -207,7 +212,7 @@ fn product_of(letters: usize, height: u128) -> u128
 
 // A vector turned clockwise by a quarter turn.
 fn turned(v: Vector) -> Vector
-    requires { nat_abs v.x ≤ 2097152 }
+    requires { nat_abs v.x ≤ 268435456 }
     ensures { result ≡ turned v }
 {
     Vector { x: v.y, y: -v.x }
@@ -215,10 +220,10 @@ fn turned(v: Vector) -> Vector
 
 // The direction of the line, or that of the width of letters that are one below the other.
 fn rotation_of(u: Vector, v: Vector) -> u64
-    requires ux { nat_abs u.x ≤ 2097152 }
-    requires uy { nat_abs u.y ≤ 2097152 }
-    requires vx { nat_abs v.x ≤ 2097152 }
-    requires vy { nat_abs v.y ≤ 2097152 }
+    requires ux { nat_abs u.x ≤ 268435456 }
+    requires uy { nat_abs u.y ≤ 268435456 }
+    requires vx { nat_abs v.x ≤ 268435456 }
+    requires vy { nat_abs v.y ≤ 268435456 }
     ensures { result ≡ rotation_of u v }
 {
     if crossed(u, v) == 0 {
@@ -230,10 +235,10 @@ fn rotation_of(u: Vector, v: Vector) -> u64
 
 // By how much the letters lean, forward or back.
 fn leaning_of(u: Vector, v: Vector) -> u64
-    requires ux { nat_abs u.x ≤ 2097152 }
-    requires uy { nat_abs u.y ≤ 2097152 }
-    requires vx { nat_abs v.x ≤ 2097152 }
-    requires vy { nat_abs v.y ≤ 2097152 }
+    requires ux { nat_abs u.x ≤ 268435456 }
+    requires uy { nat_abs u.y ≤ 268435456 }
+    requires vx { nat_abs v.x ≤ 268435456 }
+    requires vy { nat_abs v.y ≤ 268435456 }
     ensures { result ≡ leaning_of u v }
 {
     let across = crossed(u, v);

@@ -160,7 +160,7 @@ module _ {R : FullWorld → FullWorld → Type 0} {May : Type 0} (h : CoreChange
   core_then w o f k go = in_then (With w) (With w) o f k (λ (c : core.World) (l : With w c). core_past w c (f c) l (go c))
 
   travelled : (w : FullWorld) (draws : Bool) (places : List Spot) → May → In (With w) (core.travelled w.core draws places)
-  travelled w draws places m = in_if (With w) (are_in_range places) _ (h.drawn w w.core.state _ w.run m)
+  travelled w draws places m = in_if (With w) (are_in_range w.core.range places) _ (h.drawn w w.core.state _ w.run m)
 
   all_travelled : (ls : List (List Spot)) (w : FullWorld) → May → In (With w) (core.travelled_all w.core true ls)
   all_travelled [] w m = same w
@@ -208,7 +208,7 @@ module _ {R : FullWorld → FullWorld → Type 0} {May : Type 0} (h : CoreChange
   may_on w v k m = subst (λ (c : Context). c.in_polygon ≡ false → May) (sym (h.context_is w v k)) m
 
   pub along_holds : (w : FullWorld) (draws : Bool) (places : List Spot) → May → In (R w) (drawn_along w draws places)
-  along_holds w draws places m = in_if (R w) (are_in_range places) _ (h.drawn w w.core.state _ _ m)
+  along_holds w draws places m = in_if (R w) (are_in_range w.core.range places) _ (h.drawn w w.core.state _ _ m)
 
   line : (w : FullWorld) (t : Step) → May → In (R w) (line_step w t)
   unfolding line_step
@@ -223,7 +223,7 @@ module _ {R : FullWorld → FullWorld → Type 0} {May : Type 0} (h : CoreChange
 
   line_in : (on : Bool) (w : FullWorld) (t : Step) → w.context.in_polygon ≡ on → MayLine w → In (R w) (lined_by on w t)
   unfolding trace_step
-  line_in true w t e m = in_if (R w) (are_in_range (places_of w t)) _ (in_buffer w _ _ e (traced_holds w t (places_of w t)))
+  line_in true w t e m = in_if (R w) (are_in_range w.core.range (places_of w t)) _ (in_buffer w _ _ e (traced_holds w t (places_of w t)))
   line_in false w t e m = line w t (m e)
 
   lined_holds : (w : FullWorld) (t : Step) → MayLine w → In (R w) (lined_step w t)
@@ -240,7 +240,7 @@ module _ {R : FullWorld → FullWorld → Type 0} {May : Type 0} (h : CoreChange
   touch_in : (on : Bool) (w : FullWorld) → w.context.in_polygon ≡ on → MayLine w → In (R w) (touched_in on w)
   unfolding core.step
   touch_in true w e m = same w
-  touch_in false w e m = by_core w _ (in_if (With w) (list_all are_in_range (path w.core.page w.core.state Touch).lines) _ (h.drawn w _ _ w.run (m e)))
+  touch_in false w e m = by_core w _ (in_if (With w) (list_all (are_in_range w.core.range) (path w.core.page w.core.state Touch).lines) _ (h.drawn w _ _ w.run (m e)))
 
   -- a move, after which the symbol is drawn
   move_holds : (w : FullWorld) (t : Step) → MayLine w → In (R w) (full_moved w t)
@@ -279,7 +279,7 @@ module _ {R : FullWorld → FullWorld → Type 0} {May : Type 0} (h : CoreChange
   curve_in : (on : Bool) (w : FullWorld) (places : List Spot) → w.context.in_polygon ≡ on → MayLine w → In (R w) (lined_in on w places)
   curve_in true w places e m =
       let start : Spot = w.core.state.place in
-      in_if (R w) (are_in_range (start ∷ places)) _
+      in_if (R w) (are_in_range w.core.range (start ∷ places)) _
       (in_buffer w w.core.state _ e
       (λ held. reached_hold w.core.state.is_down (begun_at w.buffer start) places (buffers_hold_polygons_lem.begun w.buffer start held)))
   curve_in false w places e m = along_holds w w.core.state.is_down (w.core.state.place ∷ places) (m e)
@@ -293,12 +293,12 @@ module _ {R : FullWorld → FullWorld → Type 0} {May : Type 0} (h : CoreChange
   arc_holds w relative points m =
       let through : Spot = (curve_pen w relative points.through).place in
       let end : Position = curve_pen w relative points.to in
-      in_if (R w) (are_in_range (through ∷ (end.place ∷ []))) _ (over_holds w (arc_places w.core.state.place through end.place) end m)
+      in_if (R w) (are_in_range w.core.range (through ∷ (end.place ∷ []))) _ (over_holds w (arc_places w.core.state.place through end.place) end m)
 
   pub curve_holds : (w : FullWorld) (relative : Bool) (points : CurvePoints) → MayLine w → In (R w) (curve_step w relative points)
   curve_holds w relative points m =
       let first : Spot = (curve_pen w relative points.first).place in
       let second : Spot = (curve_pen w relative points.second).place in
       let end : Position = curve_pen w relative points.to in
-      in_if (R w) (are_in_range (first ∷ (second ∷ (end.place ∷ [])))) _
+      in_if (R w) (are_in_range w.core.range (first ∷ (second ∷ (end.place ∷ [])))) _
       (over_holds w (bezier_places w.core.state.place first second end.place) end m)

@@ -19,6 +19,7 @@ use Rattle.lettering.specs.CoreTexts.{is_core_byte}
 use Rattle.plot_frame.specs.declared.pair.Pair.{Pair}
 use Rattle.plot_frame.specs.declared.scaling.Ends.{Ends}
 use Rattle.plot_page.specs.declared.page.Page.{Page}
+use Rattle.plot_page.specs.declared.stroke.TheConstants.{FARTHEST_END}
 use Rattle.plot_settings.specs.Meanings.{Step, Set, Write, Load, meaning, entry_steps, body_steps, sets, steps_of}
 use Rattle.plot_settings.specs.Parameters.{nearest_axis, usual_size, when}
 use Rattle.plot_settings.specs.Slants.{is_slanted}
@@ -32,7 +33,7 @@ use Rattle.hpgl_text.specs.declared.instruction.Instruction.TheVariants.{Initial
 use Rattle.hpgl_plot.specs.declared.fault.PlotFault.{PlotFault}
 use Rattle.hpgl_plot.specs.declared.fault.PlotFault.TheVariants as fault
 use Rattle.hpgl_plot.specs.Machine as core
-use Rattle.hpgl_plot.specs.Strokes.{strokes, strokes_after, strokes_with, refusal, refusal_after, refusal_with}
+use Rattle.hpgl_plot.specs.Strokes.{strokes, strokes_after, strokes_with, refusal_after}
 use Rattle.hpgl_plot.proofs.Bridge.{told, world, Told}
 use Rattle.full_settings.specs.LetterParameters.{is_vector, pair_of}
 use Rattle.full_settings.specs.Characters.{Characters, usual_characters, usual_font}
@@ -46,7 +47,7 @@ use Rattle.full_plot.specs.Items.{as_core, letters_steps, more_steps, params_ste
 use Rattle.full_plot.specs.Worlds.{FullWorld, full_followed, with_core}
 use Rattle.full_plot.specs.Machine.{FullStep, Core, Letter, Restart, Restyle, Rewiden, restarted, restyled, rewidened, run, widths_in, with_widths}
 use Rattle.full_plot.specs.Drawings.{full_at_start, full_at_start_with, full_ended, is_too_much, full_runs, refusal_in, strokes_in, ends_in, areas_of}
-use Rattle.full_plot.specs.Laws.{core_part, is_core_body, IsCoreItem, Draws}
+use Rattle.full_plot.specs.Laws.{core_part, far_refusal, far_refusal_with, is_core_body, IsCoreItem, Draws}
 use Rattle.full_notes.specs.Contexts.{Context, first_context, read_in}
 use Rattle.full_notes.specs.Notes.{context_after}
 use Rattle.full_plot.specs.Texts.{lettered, turn_by}
@@ -391,37 +392,37 @@ like_at_start encoding carousel page plain = record {
 }
 
 pub runs_as_in_core : (page : Page) (items : List ItemShape) → All IsCoreItem items
-    → core_part (full_runs (full_at_start page) items) ≡ core.runs (core.at_start page) items
+    → core_part (full_runs (full_at_start page) items) ≡ core.runs (core.far_start empty page) items
 runs_as_in_core page items all = (items_run (full_at_start page) items all (like_at_start ByPlot empty page refl)).same
 
 -- what core leaves is what its definitions say
-refusal_told : (page : Page) (before : List Step) (items : List ItemShape) (r : Result FullWorld PlotFault) → Told page before [] items (core_part r)
-    → refusal_in r ≡ refusal_after page before 0 items
+refusal_told : (page : Page) (before : List Step) (items : List ItemShape) (r : Result FullWorld PlotFault) → Told FARTHEST_END page before [] items (core_part r)
+    → refusal_in r ≡ refusal_after FARTHEST_END page before 0 items
 refusal_told page before items (Ok w) t = sym t.0
 refusal_told page before items (Err e) t = sym t
 
-strokes_told : (page : Page) (before : List Step) (items : List ItemShape) (r : Result FullWorld PlotFault) → Told page before [] items (core_part r)
-    → refusal_after page before 0 items ≡ None → strokes_in r ≡ strokes_after page before items
+strokes_told : (page : Page) (before : List Step) (items : List ItemShape) (r : Result FullWorld PlotFault) → Told FARTHEST_END page before [] items (core_part r)
+    → refusal_after FARTHEST_END page before 0 items ≡ None → strokes_in r ≡ strokes_after page before items
 strokes_told page before items (Ok w) t n = t.1
 strokes_told page before items (Err e) t n = absurd (none-some e (sym n ∙ t))
 
 -- from a world with the core after some steps, and no strokes
-draws_from : (page : Page) (before : List Step) (w : FullWorld) (items : List ItemShape) → w.core ≡ world page before [] false → Like w → All IsCoreItem items
-    → Draws (full_runs w items) (refusal_after page before 0 items) (strokes_after page before items)
+draws_from : (page : Page) (before : List Step) (w : FullWorld) (items : List ItemShape) → w.core ≡ world FARTHEST_END page before [] false → Like w → All IsCoreItem items
+    → Draws (full_runs w items) (refusal_after FARTHEST_END page before 0 items) (strokes_after page before items)
 draws_from page before w items is l all =
     let r : Result FullWorld PlotFault = full_runs w items in
     let h : EndsLike r (core.runs w.core items) = items_run w items all l in
-    let same : core_part r ≡ core.runs (world page before [] false) items = h.same ∙ ap (λ (c : core.World). core.runs c items) is in
-    let t : Told page before [] items (core_part r) =
-    subst (λ (x : Result core.World PlotFault). Told page before [] items x) (sym same) (told page before [] items (omega arith)) in
+    let same : core_part r ≡ core.runs (world FARTHEST_END page before [] false) items = h.same ∙ ap (λ (c : core.World). core.runs c items) is in
+    let t : Told FARTHEST_END page before [] items (core_part r) =
+    subst (λ (x : Result core.World PlotFault). Told FARTHEST_END page before [] items x) (sym same) (told FARTHEST_END page before [] items (omega arith)) in
     (refusal_told page before items r t, strokes_told page before items r t, h.one_sheet, h.no_areas)
 
 pub draws_as_in_core : (page : Page) (items : List ItemShape) → All IsCoreItem items
-    → Draws (full_runs (full_at_start page) items) (refusal page items) (strokes page items)
+    → Draws (full_runs (full_at_start page) items) (far_refusal page items) (strokes page items)
 draws_as_in_core page items all = draws_from page [] (full_at_start page) items refl (like_at_start ByPlot empty page refl) all
 
 pub draws_as_in_core_with : (encoding : Encoding) (carousel : Carousel) (page : Page) (items : List ItemShape)
     → IsTrue (reads_ascii encoding usual_characters.sets) → All IsCoreItem items
-    → Draws (full_runs (full_at_start_with encoding carousel page) items) (refusal_with carousel page items) (strokes_with carousel page items)
+    → Draws (full_runs (full_at_start_with encoding carousel page) items) (far_refusal_with carousel page items) (strokes_with carousel page items)
 draws_as_in_core_with encoding carousel page items plain all =
     draws_from page (Load carousel ∷ []) (full_at_start_with encoding carousel page) items refl (like_at_start encoding carousel page plain) all

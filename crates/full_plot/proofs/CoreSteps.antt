@@ -213,7 +213,7 @@ led_by : (c e : core.World) (d r : Labelling) (t : Step) → Leads d r t → lab
 unfolding core.step
 led_by c e d r t l k h =
     let P : core.World → Type 0 = λ u. labelling u.state ≡ r in
-    subst (In P) h (in_if P (list_all are_in_range (path c.page c.state t).lines) _ (l c.page c.state k))
+    subst (In P) h (in_if P (list_all (are_in_range c.range) (path c.page c.state t).lines) _ (l c.page c.state k))
 
 -- what steps leave: core sets r for labels then, and labels are by d as before
 abbrev pub LikeIn : Labelling → Labelling → Option FullWorld → Type 0

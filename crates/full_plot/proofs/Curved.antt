@@ -39,10 +39,10 @@ use Rattle.full_plot.proofs.LinesAlong.{Keeps, along_keeps, not_passed, places_i
 -- places that are reached
 pub reached_keeps : (w v : FullWorld) (places : List Spot) → reached w places ≡ Some v → Keeps w v
 reached_keeps w v places k =
-    subst (In (Keeps w)) k (in_if (Keeps w) (are_in_range (w.core.state.place ∷ places)) _ (record { page_is = refl; state_is = refl }))
+    subst (In (Keeps w)) k (in_if (Keeps w) (are_in_range w.core.range (w.core.state.place ∷ places)) _ (record { page_is = refl; range_is = refl; state_is = refl }))
 
-pub reached_in : (w v : FullWorld) (places : List Spot) → reached w places ≡ Some v → are_in_range (w.core.state.place ∷ places) ≡ true
-reached_in w v places k = made_if (are_in_range (w.core.state.place ∷ places)) _ v k
+pub reached_in : (w v : FullWorld) (places : List Spot) → reached w places ≡ Some v → are_in_range w.core.range (w.core.state.place ∷ places) ≡ true
+reached_in w v places k = made_if (are_in_range w.core.range (w.core.state.place ∷ places)) _ v k
 
 pub reached_out : (w : FullWorld) (places : List Spot) → core.travelled w.core false (w.core.state.place ∷ places) ≡ None → reached w places ≡ None
 reached_out w places k = rw (not_passed w.core false (w.core.state.place ∷ places) k) refl
@@ -80,14 +80,14 @@ pub move_traced : (w : FullWorld) (relative : Bool) (x y : ℤ) (end : Position)
     → trace_step w (Go relative x y) ≡ ended_in (state_after w (Go relative x y)) (reached w (end.place ∷ []))
 move_traced w relative x y end e =
     traced_by w (Go relative x y) w.core.state.is_down (w.core.state.place ∷ (end.place ∷ [])) end e
-    ∙ traced_as (are_in_range (w.core.state.place ∷ (end.place ∷ []))) w (state_after w (Go relative x y)) _
+    ∙ traced_as (are_in_range w.core.range (w.core.state.place ∷ (end.place ∷ []))) w (state_after w (Go relative x y)) _
 
 pub traced_keeps : (w v : FullWorld) (places : List Spot) → traced_over w places ≡ Some v → Keeps w v
 traced_keeps w v places k =
     let kept = reached_keeps (record w { buffer = begun_at w.buffer w.core.state.place }) v places k in
-    record { page_is = kept.page_is; state_is = kept.state_is }
+    record { page_is = kept.page_is; range_is = kept.range_is; state_is = kept.state_is }
 
-pub traced_in : (w v : FullWorld) (places : List Spot) → traced_over w places ≡ Some v → are_in_range (w.core.state.place ∷ places) ≡ true
+pub traced_in : (w v : FullWorld) (places : List Spot) → traced_over w places ≡ Some v → are_in_range w.core.range (w.core.state.place ∷ places) ≡ true
 traced_in w v places k = reached_in (record w { buffer = begun_at w.buffer w.core.state.place }) v places k
 
 pub arc_traced : (w : FullWorld) (relative : Bool) (a : Arc) (places : List Spot) (end : Position)
@@ -95,26 +95,26 @@ pub arc_traced : (w : FullWorld) (relative : Bool) (a : Arc) (places : List Spot
     → trace_step w (DrawArc relative a) ≡ ended_in (state_after w (DrawArc relative a)) (traced_over w places)
 arc_traced w relative a places end e =
     traced_by w (DrawArc relative a) w.core.state.is_down (w.core.state.place ∷ places) end e
-    ∙ traced_as (are_in_range (w.core.state.place ∷ places)) w (state_after w (DrawArc relative a)) _
+    ∙ traced_as (are_in_range w.core.range (w.core.state.place ∷ places)) w (state_after w (DrawArc relative a)) _
 
 -- the end of an arc is the last of its places
-last_in_range : (f : ℕ → Spot) (n : ℕ) → 0 < n → are_in_range (map f (range_with_len 1 n)) ≡ true → IsInRange (f n)
-last_in_range f n h k =
+last_in_range : (range : ℕ) (f : ℕ → Spot) (n : ℕ) → 0 < n → are_in_range range (map f (range_with_len 1 n)) ≡ true → IsInRange range (f n)
+last_in_range range f n h k =
     let len : length (map f (range_with_len 1 n)) ≡ n = length-map-range_with_len f 1 n in
-    subst (λ (q : Spot). IsInRange q) (get_or-map-range_with_len f 1 n (n - 1) n (f n) (omega arith) (omega arith))
-    (places_in_range (map f (range_with_len 1 n)) k (n - 1) (f n) (omega (arith, len)))
+    subst (λ (q : Spot). IsInRange range q) (get_or-map-range_with_len f 1 n (n - 1) n (f n) (omega arith) (omega arith))
+    (places_in_range range (map f (range_with_len 1 n)) k (n - 1) (f n) (omega (arith, len)))
 
 pub arc_end_in_range : (w : FullWorld) (relative : Bool) (a : Arc) (places : List Spot) (end : Position)
     → step_path w (DrawArc relative a) ≡ along (w.core.state.place ∷ places) w.core.state.is_down end
-    → are_in_range (w.core.state.place ∷ places) ≡ true → IsInRange end.place
+    → are_in_range w.core.range (w.core.state.place ∷ places) ≡ true → IsInRange w.core.range end.place
 arc_end_in_range w relative a places end e k =
     let s = w.core.state in
     let curve = arc_curve s.coordinates (target relative s.coordinates a.x a.y) a in
     let chords = curve_places w.core.page s.frame curve in
-    let all : are_in_range (s.place ∷ chords) ≡ true = ap (λ (q : Path). are_in_range (first_line q.lines)) e ∙ k in
-    subst (λ (q : Path). IsInRange q.ends.place) e
-    (last_in_range (λ (i : ℕ). place w.core.page s.frame (curve_point curve i)) (chord_count curve) (has_chord curve)
-    (and_parts (is_in_range s.place) (are_in_range chords) all).1)
+    let all : are_in_range w.core.range (s.place ∷ chords) ≡ true = ap (λ (q : Path). are_in_range w.core.range (first_line q.lines)) e ∙ k in
+    subst (λ (q : Path). IsInRange w.core.range q.ends.place) e
+    (last_in_range w.core.range (λ (i : ℕ). place w.core.page s.frame (curve_point curve i)) (chord_count curve) (has_chord curve)
+    (and_parts (is_in_range w.core.range s.place) (are_in_range w.core.range chords) all).1)
 
 pub arc_end_is_placed : (w u : FullWorld) (relative : Bool) (a : Arc) (places : List Spot) (end : Position)
     → step_path w (DrawArc relative a) ≡ along (w.core.state.place ∷ places) w.core.state.is_down end → Keeps w u
@@ -126,7 +126,7 @@ arc_end_is_placed w u relative a places end e k =
 
 -- a circle in polygon mode
 pub circle_traced : (w : FullWorld) (c : Circle) (places : List Spot) (end : Position)
-    → step_path w (DrawCircle c) ≡ along places true end → are_in_range places ≡ true
+    → step_path w (DrawCircle c) ≡ along places true end → are_in_range w.core.range places ≡ true
     → trace_step w (DrawCircle c) ≡ Some (record w { buffer = figure_in (closed w.buffer w.core.state.is_down) places })
 circle_traced w c places end e k = traced_by w (DrawCircle c) true places end e ∙ rw k refl
 
@@ -160,37 +160,37 @@ pub lined_keeps : (w v : FullWorld) (places : List Spot) → lined w places ≡ 
 lined_keeps w v places k = lined_keeps_in w.context.in_polygon w v places k
 
 -- a place out of range
-pub out_of_range : (w : FullWorld) (q : Spot) → core.travelled w.core true (q ∷ []) ≡ None → if_in_range (q ∷ []) (Some w) ≡ None
-out_of_range w q k = elim (cases_Bool (is_in_range q)) [
+pub out_of_range : (w : FullWorld) (q : Spot) → core.travelled w.core true (q ∷ []) ≡ None → if_in_range w.core.range (q ∷ []) (Some w) ≡ None
+out_of_range w q k = elim (cases_Bool (is_in_range w.core.range q)) [
   | inl i ↦ absurd (none-some _ (sym (rw i at k)))
   | inr i ↦ rw i refl
 ]
 
 -- an arc and a curve whose points are in range
-if_both : {o : Option FullWorld} (a b : Spot) → IsInRange a → IsInRange b → if_in_range (a ∷ (b ∷ [])) o ≡ o
-if_both a b i j = rw (within a i, within b j) refl
+if_both : {o : Option FullWorld} (range : ℕ) (a b : Spot) → IsInRange range a → IsInRange range b → if_in_range range (a ∷ (b ∷ [])) o ≡ o
+if_both range a b i j = rw (within range a i, within range b j) refl
 
-if_all : {o : Option FullWorld} (a b c : Spot) → IsInRange a → IsInRange b → IsInRange c → if_in_range (a ∷ (b ∷ (c ∷ []))) o ≡ o
-if_all a b c i j k = rw (within a i, within b j, within c k) refl
+if_all : {o : Option FullWorld} (range : ℕ) (a b c : Spot) → IsInRange range a → IsInRange range b → IsInRange range c → if_in_range range (a ∷ (b ∷ (c ∷ []))) o ≡ o
+if_all range a b c i j k = rw (within range a i, within range b j, within range c k) refl
 
 pub arc_runs : {U : Type 0} (w v : FullWorld) (relative : Bool) (a : ArcPoints) (t e : Position) (places : List Spot) (r : Result U Stop)
-    → t ≡ curve_pen w relative a.through → e ≡ curve_pen w relative a.to → IsInRange t.place → IsInRange e.place
+    → t ≡ curve_pen w relative a.through → e ≡ curve_pen w relative a.to → IsInRange w.core.range t.place → IsInRange w.core.range e.place
     → places ≡ arc_places w.core.state.place t.place e.place → Runs (gone_over w places e) v r → Runs (arc_step w relative a) v r
 arc_runs w v relative a t e places r t_is e_is i j p h =
-    let arc = λ (x y : Position). if_in_range (x.place ∷ (y.place ∷ [])) (gone_over w (arc_places w.core.state.place x.place y.place) y) in
-    let same : gone_over w places e ≡ arc t e = ap (λ (ps : List Spot). gone_over w ps e) p ∙ sym (if_both t.place e.place i j) in
+    let arc = λ (x y : Position). if_in_range w.core.range (x.place ∷ (y.place ∷ [])) (gone_over w (arc_places w.core.state.place x.place y.place) y) in
+    let same : gone_over w places e ≡ arc t e = ap (λ (ps : List Spot). gone_over w ps e) p ∙ sym (if_both w.core.range t.place e.place i j) in
     let all : arc t e ≡ arc_step w relative a = ap (λ (x : Position). arc x e) t_is ∙ ap (λ (y : Position). arc (curve_pen w relative a.through) y) e_is in
     subst (λ (o : Option FullWorld). Runs o v r) (same ∙ all) h
 
 pub curve_runs : {U : Type 0} (w v : FullWorld) (relative : Bool) (c : CurvePoints) (f s e : Position) (places : List Spot) (r : Result U Stop)
     → f ≡ curve_pen w relative c.first → s ≡ curve_pen w relative c.second → e ≡ curve_pen w relative c.to
-    → IsInRange f.place → IsInRange s.place → IsInRange e.place
+    → IsInRange w.core.range f.place → IsInRange w.core.range s.place → IsInRange w.core.range e.place
     → places ≡ bezier_places w.core.state.place f.place s.place e.place → Runs (gone_over w places e) v r → Runs (curve_step w relative c) v r
 curve_runs w v relative c f s e places r f_is s_is e_is i j k p h =
-    let curve = λ (x y z : Position). if_in_range (x.place ∷ (y.place ∷ (z.place ∷ []))) (gone_over w (bezier_places w.core.state.place x.place y.place z.place) z) in
+    let curve = λ (x y z : Position). if_in_range w.core.range (x.place ∷ (y.place ∷ (z.place ∷ []))) (gone_over w (bezier_places w.core.state.place x.place y.place z.place) z) in
     let first = curve_pen w relative c.first in
     let second = curve_pen w relative c.second in
-    let same : gone_over w places e ≡ curve f s e = ap (λ (ps : List Spot). gone_over w ps e) p ∙ sym (if_all f.place s.place e.place i j k) in
+    let same : gone_over w places e ≡ curve f s e = ap (λ (ps : List Spot). gone_over w ps e) p ∙ sym (if_all w.core.range f.place s.place e.place i j k) in
     let all : curve f s e ≡ curve_step w relative c =
     ap (λ (x : Position). curve x s e) f_is ∙ ap (λ (y : Position). curve first y e) s_is ∙ ap (λ (z : Position). curve first second z) e_is in
     subst (λ (o : Option FullWorld). Runs o v r) (same ∙ all) h

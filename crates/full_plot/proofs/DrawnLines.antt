@@ -11,7 +11,8 @@ use Rattle.std.specs.List.{All}
 use Rattle.std.specs.Prelude.{nat_eq, ◌-ℤ◌}
 use Rattle.exact.specs.declared.spot.Spot.{Spot}
 use Rattle.plot_page.specs.Segments.{Segment}
-use Rattle.line_types.specs.Bounds.{IsPlace}
+use Rattle.hpgl_plot.specs.Bounds.{IsInRange}
+use Rattle.plot_page.specs.declared.stroke.TheConstants.{FARTHEST_END}
 use Rattle.line_types.specs.Laws.{IsInBox}
 use Rattle.line_types.specs.LineTypes.{LineShape, dashes_of}
 use Rattle.line_types.specs.declared.run.Run.{Run}
@@ -26,18 +27,18 @@ use Rattle.full_plot.specs.Lines.{inked, drawn_in_type, shape_in}
 
 -- dashes are as near as the ends of their line
 abbrev low : Spot
-low = record { x = pos 0 -ℤ pos (2 ^ 20); y = pos 0 -ℤ pos (2 ^ 20) }
+low = record { x = pos 0 -ℤ pos FARTHEST_END; y = pos 0 -ℤ pos FARTHEST_END }
 
 abbrev high : Spot
-high = record { x = pos (2 ^ 20); y = pos (2 ^ 20) }
+high = record { x = pos FARTHEST_END; y = pos FARTHEST_END }
 
-place_in_box : (s : Spot) → IsPlace s → IsInBox low high s
+place_in_box : (s : Spot) → IsInRange FARTHEST_END s → IsInBox low high s
 place_in_box s h =
     let x = h.x_in in
     let y = h.y_in in
     record { left = omega (arith, ints); right = omega (arith, ints); below = omega (arith, ints); above = omega (arith, ints) }
 
-box_place : (s : Spot) → IsInBox low high s → IsPlace s
+box_place : (s : Spot) → IsInBox low high s → IsInRange FARTHEST_END s
 box_place s h =
     let a = h.left in
     let b = h.right in
@@ -45,7 +46,7 @@ box_place s h =
     let d = h.above in
     record { x_in = omega (arith, ints); y_in = omega (arith, ints) }
 
-pub dashes_are_places : (shape : LineShape) (run : Option Run) (a b : Spot) → IsPlace a → IsPlace b → All IsDash (dashes_of shape run a b)
+pub dashes_are_places : (shape : LineShape) (run : Option Run) (a b : Spot) → IsInRange FARTHEST_END a → IsInRange FARTHEST_END b → All IsDash (dashes_of shape run a b)
 dashes_are_places shape run a b h k n d l =
     let e = dashes_in shape run low high a b (place_in_box a h) (place_in_box b k) n d l in
     (box_place _ e.0, box_place _ e.1)

@@ -125,7 +125,7 @@ module _ {R : FullWorld → FullWorld → Type 0} {May : Type 0} (h : Changes R 
 
   anchor_holds : (w : FullWorld) (a : Anchor) → In (R w) (anchored w a)
   anchor_holds w PageOrigin = buffer_kept w _ refl refl refl refl (λ t. t) refl
-  anchor_holds w (At p) = in_if (R w) (are_in_range ((curve_pen w false p).place ∷ [])) _ (buffer_kept w _ refl refl refl refl (λ t. t) refl)
+  anchor_holds w (At p) = in_if (R w) (are_in_range w.core.range ((curve_pen w false p).place ∷ [])) _ (buffer_kept w _ refl refl refl refl (λ t. t) refl)
 
   pub step_holds : (w : FullWorld) (s : FullStep) → (is_silent w.context.in_polygon s ≡ false → May) → fits w.context.in_polygon s ≡ true
       → In (R w) (full_step w s)
@@ -154,7 +154,7 @@ module _ {R : FullWorld → FullWorld → Type 0} {May : Type 0} (h : Changes R 
   step_holds w (Rectangle relative c) m fit =
       let places = places_of w (Edge relative c.x c.y) in
       by_map_of of_core w (kept_step w (Edge relative c.x c.y)) (buffer_filled false)
-      (in_if (R w) (are_in_range places) _ (h.aside w _ refl refl refl refl (λ t. t) (figured w places)))
+      (in_if (R w) (are_in_range w.core.range places) _ (h.aside w _ refl refl refl refl (λ t. t) (figured w places)))
       (λ (v : FullWorld) (k : R w v). fill_holds false v (m refl) (still_off w v k (not-true w.context.in_polygon fit)))
   step_holds w (WedgeEdge wedge) m fit =
       let places = wedge_places w.core.page w.core.state wedge in
@@ -163,7 +163,7 @@ module _ {R : FullWorld → FullWorld → Type 0} {May : Type 0} (h : Changes R 
   step_holds w (WedgeFill wedge) m fit =
       let places = wedge_places w.core.page w.core.state wedge in
       by_map_of of_core w (wedge_kept w wedge) (buffer_filled false)
-      (in_if (R w) (are_in_range places) _ (h.aside w _ refl refl refl refl (λ t. t) (figured w places)))
+      (in_if (R w) (are_in_range w.core.range places) _ (h.aside w _ refl refl refl refl (λ t. t) (figured w places)))
       (λ (v : FullWorld) (k : R w v). fill_holds false v (m refl) (still_off w v k (not-true w.context.in_polygon fit)))
   step_holds w EndSheet m fit = h.ended w
   step_holds w s m fit = buffer_kept w _ refl refl refl refl (λ t. t) refl

@@ -31,6 +31,7 @@ pub mod AsInCore
 pub mod CoreSteps
 pub mod Stills
 pub mod CorePlots
+pub mod Wider
 mod BadItems
 mod Traced
 mod Undrawn

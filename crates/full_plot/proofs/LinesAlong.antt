@@ -12,7 +12,9 @@ use Rattle.hpgl_plot.specs.declared.plotter.Stop.{Stop}
 use Rattle.hpgl_plot.specs.declared.plotter.Stop.TheVariants.{Memory, OffRange}
 use Rattle.hpgl_plot.specs.declared.state.Position.{Position}
 use Rattle.hpgl_plot.specs.declared.state.State.{State}
-use Rattle.hpgl_plot.specs.Bounds.{IsInRange}
+use Rattle.hpgl_plot.specs.Bounds.{IsInRange, IsRangeOfPlaces}
+use Rattle.hpgl_plot.proofs.Sound.{as_far}
+use Rattle.plot_page.specs.declared.stroke.TheConstants.{FARTHEST_END}
 use Rattle.hpgl_plot.specs.Paths.{along}
 use Rattle.hpgl_plot.specs.Strokes.{are_in_range, by_a_pen, is_in_range, joined, stroke}
 use Rattle.hpgl_plot.specs.Strokes as strokes
@@ -43,7 +45,7 @@ with_runs w o v (Err OffRange) h = ap (λ (p : Option core.World). with_core w p
 -- in solid lines they are core's
 pub solid_along : (w : FullWorld) (draws : Bool) (places : List Spot) → shape_in w ≡ Solid
     → drawn_along w draws places ≡ with_core w (core.travelled w.core draws places)
-solid_along w draws places h = elim (cases_Bool (are_in_range places)) [
+solid_along w draws places h = elim (cases_Bool (are_in_range w.core.range places)) [
   | inl i ↦ rw (i, h, solid_joined w.core.state w.run draws places, run_solid w.run _) refl
   | inr i ↦ rw i refl
 ]
@@ -91,16 +93,16 @@ pub still_by : (w : FullWorld) (t : Step) (draws : Bool) (places : List Spot) (e
 still_by w t draws places end e h =
     line_by w t draws places end e
     ∙ ap (λ (s : State). ended_in s (drawn_along w draws places)) h
-    ∙ still_in (are_in_range places) w (drawn_in_type w (lines_along w.core.state draws places)) refl
+    ∙ still_in (are_in_range w.core.range places) w (drawn_in_type w (lines_along w.core.state draws places)) refl
 
 pub traced_by : (w : FullWorld) (t : Step) (draws : Bool) (places : List Spot) (end : Position) → step_path w t ≡ along places draws end
-    → trace_step w t ≡ (if are_in_range places then Some (record (with_state w (state_after w t)) { buffer = traced w t places }) else None)
+    → trace_step w t ≡ (if are_in_range w.core.range places then Some (record (with_state w (state_after w t)) { buffer = traced w t places }) else None)
 unfolding trace_step
 traced_by w t draws places end e = rw e refl
 
 -- a place that core finds out of range
-out_is : (c : core.World) (draws : Bool) (a : Spot) → core.travelled c draws (a ∷ []) ≡ None → is_in_range a ≡ false
-out_is c draws a k = elim (cases_Bool (is_in_range a)) [
+out_is : (c : core.World) (draws : Bool) (a : Spot) → core.travelled c draws (a ∷ []) ≡ None → is_in_range c.range a ≡ false
+out_is c draws a k = elim (cases_Bool (is_in_range c.range a)) [
   | inl i ↦ absurd (none-some _ (sym (rw i at k)))
   | inr i ↦ i
 ]
@@ -109,7 +111,7 @@ pub along_out : (w : FullWorld) (draws : Bool) (a : Spot) (rest : List Spot) →
 along_out w draws a rest k = rw (out_is w.core draws a k) refl
 
 pub along_two_out : (w : FullWorld) (draws : Bool) (a b : Spot) → core.travelled w.core draws (b ∷ []) ≡ None → drawn_along w draws (a ∷ (b ∷ [])) ≡ None
-along_two_out w draws a b k = elim (cases_Bool (is_in_range a)) [
+along_two_out w draws a b k = elim (cases_Bool (is_in_range w.core.range a)) [
   | inl i ↦ rw (i, out_is w.core draws b k) refl
   | inr i ↦ rw i refl
 ]
@@ -125,58 +127,68 @@ more_lines w false a b rest = sym (none_drawn (drawn_in_type w []))
 
 pub along_more : (w v : FullWorld) (draws : Bool) (a b : Spot) (rest : List Spot) → drawn_along w draws (a ∷ (b ∷ [])) ≡ Some v
     → drawn_along w draws (a ∷ (b ∷ rest)) ≡ drawn_along v draws (b ∷ rest)
-along_more w v draws a b rest h = elim (cases_Bool (is_in_range a)) [
+along_more w v draws a b rest h = elim (cases_Bool (is_in_range w.core.range a)) [
   | inr s ↦ absurd (none-some v (rw s at h))
-  | inl s ↦ elim (cases_Bool (is_in_range b)) [
+  | inl s ↦ elim (cases_Bool (is_in_range w.core.range b)) [
     | inr t ↦ absurd (none-some v (rw (s, t) at h))
     | inl t ↦ (let e = same_Some _ _ (rw (s, t) at h) in
         subst (λ (u : FullWorld). drawn_along w draws (a ∷ (b ∷ rest)) ≡ drawn_along u draws (b ∷ rest)) e
-        (rw (s, t) (ap (λ (u : FullWorld). if are_in_range rest then Some u else None) (more_lines w draws a b rest))))
+        (rw (s, t) (ap (λ (u : FullWorld). if are_in_range w.core.range rest then Some u else None) (more_lines w draws a b rest))))
   ]
 ]
 
 -- lines leave the page and the state as they are
 pub record Keeps (w v : FullWorld) : Type 0 where
   pub page_is : v.core.page ≡ w.core.page
+  pub range_is : v.core.range ≡ w.core.range
   pub state_is : v.core.state ≡ w.core.state
 
 pub along_keeps : (w v : FullWorld) (draws : Bool) (places : List Spot) → drawn_along w draws places ≡ Some v → Keeps w v
-along_keeps w v draws places k = subst (In (Keeps w)) k (in_if (Keeps w) (are_in_range places) _ (record { page_is = refl; state_is = refl }))
+along_keeps w v draws places k = subst (In (Keeps w)) k (in_if (Keeps w) (are_in_range w.core.range places) _ (record { page_is = refl; range_is = refl; state_is = refl }))
+
+-- and the range of places
+pub kept_range : (w v : FullWorld) (q : Spot) → Keeps w v → IsInRange w.core.range q → IsInRange v.core.range q
+kept_range w v q k h = subst (λ (n : ℕ). IsInRange n q) (sym k.range_is) h
 
 pub along_shape : (w v : FullWorld) (draws : Bool) (places : List Spot) → drawn_along w draws places ≡ Some v → shape_in v ≡ shape_in w
 along_shape w v draws places k =
-    let P : FullWorld → Type 0 = λ x. shape_in x ≡ shape_in w in subst (In P) k (in_if P (are_in_range places) _ refl)
+    let P : FullWorld → Type 0 = λ x. shape_in x ≡ shape_in w in subst (In P) k (in_if P (are_in_range w.core.range places) _ refl)
 
 -- where the pen comes to
-in_range_of : (q : Spot) → is_in_range q ≡ true → IsInRange q
-in_range_of q h = record { x_in = grind (arith, nat_tests); y_in = grind (arith, nat_tests) }
+in_range_of : (range : ℕ) (q : Spot) → is_in_range range q ≡ true → IsInRange range q
+in_range_of range q h = record { x_in = grind (arith, nat_tests); y_in = grind (arith, nat_tests) }
 
-pub places_in_range : (ps : List Spot) → are_in_range ps ≡ true → (k : ℕ) (d : Spot) → k < length ps → IsInRange (slice_index_or ps k d)
-places_in_range [] h k d l = absurd (omega arith)
-places_in_range (q ∷ qs) h zero d l = in_range_of q (and_parts (is_in_range q) (are_in_range qs) h).0
-places_in_range (q ∷ qs) h (suc k) d l = places_in_range qs (and_parts (is_in_range q) (are_in_range qs) h).1 k d (omega arith)
+pub places_in_range : (range : ℕ) (ps : List Spot) → are_in_range range ps ≡ true → (k : ℕ) (d : Spot) → k < length ps → IsInRange range (slice_index_or ps k d)
+places_in_range range [] h k d l = absurd (omega arith)
+places_in_range range (q ∷ qs) h zero d l = in_range_of range q (and_parts (is_in_range range q) (are_in_range range qs) h).0
+places_in_range range (q ∷ qs) h (suc k) d l = places_in_range range qs (and_parts (is_in_range range q) (are_in_range range qs) h).1 k d (omega arith)
 
-pub first_in_range : (q : Spot) (qs : List Spot) → are_in_range (q ∷ qs) ≡ true → IsInRange q
-first_in_range q qs h = in_range_of q (and_parts (is_in_range q) (are_in_range qs) h).0
+pub first_in_range : (range : ℕ) (q : Spot) (qs : List Spot) → are_in_range range (q ∷ qs) ≡ true → IsInRange range q
+first_in_range range q qs h = in_range_of range q (and_parts (is_in_range range q) (are_in_range range qs) h).0
 
-pub second_in_range : (a q : Spot) (qs : List Spot) → are_in_range (a ∷ (q ∷ qs)) ≡ true → IsInRange q
-second_in_range a q qs h = first_in_range q qs (and_parts (is_in_range a) (are_in_range (q ∷ qs)) h).1
+pub second_in_range : (range : ℕ) (a q : Spot) (qs : List Spot) → are_in_range range (a ∷ (q ∷ qs)) ≡ true → IsInRange range q
+second_in_range range a q qs h = first_in_range range q qs (and_parts (is_in_range range a) (are_in_range range (q ∷ qs)) h).1
 
-pub rest_in_range : (q : Spot) (qs : List Spot) → are_in_range (q ∷ qs) ≡ true → (k : ℕ) (d : Spot) → k < length qs → IsInRange (slice_index_or qs k d)
-rest_in_range q qs h = places_in_range qs (and_parts (is_in_range q) (are_in_range qs) h).1
+pub rest_in_range : (range : ℕ) (q : Spot) (qs : List Spot) → are_in_range range (q ∷ qs) ≡ true → (k : ℕ) (d : Spot) → k < length qs → IsInRange range (slice_index_or qs k d)
+rest_in_range range q qs h = places_in_range range qs (and_parts (is_in_range range q) (are_in_range range qs) h).1
 
-pub travelled_in : (c d : core.World) (draws : Bool) (places : List Spot) → core.travelled c draws places ≡ Some d → are_in_range places ≡ true
-travelled_in c d draws places k = made_if (are_in_range places) _ d k
+-- in the range of any stroke
+pub rest_far : (range : ℕ) (q : Spot) (qs : List Spot) → IsRangeOfPlaces range → are_in_range range (q ∷ qs) ≡ true → (k : ℕ) (d : Spot) → k < length qs
+    → IsInRange FARTHEST_END (slice_index_or qs k d)
+rest_far range q qs r h k d l = as_far range (slice_index_or qs k d) r (rest_in_range range q qs h k d l)
 
-pub along_in : (w v : FullWorld) (draws : Bool) (places : List Spot) → drawn_along w draws places ≡ Some v → are_in_range places ≡ true
-along_in w v draws places k = made_if (are_in_range places) _ v k
+pub travelled_in : (c d : core.World) (draws : Bool) (places : List Spot) → core.travelled c draws places ≡ Some d → are_in_range c.range places ≡ true
+travelled_in c d draws places k = made_if (are_in_range c.range places) _ d k
+
+pub along_in : (w v : FullWorld) (draws : Bool) (places : List Spot) → drawn_along w draws places ≡ Some v → are_in_range w.core.range places ≡ true
+along_in w v draws places k = made_if (are_in_range w.core.range places) _ v k
 
 -- core passes places without lines: nothing is drawn
 pub not_drawn : (c d : core.World) (places : List Spot) → core.travelled c false places ≡ Some d → d ≡ c
 not_drawn c d places k = sym (same_Some c d (rw (travelled_in c d false places k) at k))
 
-pub not_passed : (c : core.World) (draws : Bool) (places : List Spot) → core.travelled c draws places ≡ None → are_in_range places ≡ false
-not_passed c draws places k = elim (cases_Bool (are_in_range places)) [
+pub not_passed : (c : core.World) (draws : Bool) (places : List Spot) → core.travelled c draws places ≡ None → are_in_range c.range places ≡ false
+not_passed c draws places k = elim (cases_Bool (are_in_range c.range places)) [
   | inl i ↦ absurd (none-some _ (sym (rw i at k)))
   | inr i ↦ i
 ]

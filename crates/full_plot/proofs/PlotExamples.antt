@@ -69,7 +69,7 @@ unfolding place_along back_along all_pens default_colours empty line_step core.s
 types = refl
 
 -- a place out of range is refused in every line type
-off_range : refusal_in (outcome page (codes "LT2;PD65537,0;")) ≡ Some (OffRange 4)
+off_range : refusal_in (outcome page (codes "LT2;PD8388607.1,0;")) ≡ Some (OffRange 4)
 unfolding place_along back_along all_pens default_colours empty line_step core.step
 off_range = refl
 
@@ -111,7 +111,7 @@ polygons : Table strokes (
 unfolding place_along back_along all_pens default_colours empty line_step core.step trace_step
 polygons = refl
 
-polygon_off_range : refusal_in (outcome page (codes "PM;PD1,1,65537,0;")) ≡ Some (OffRange 3)
+polygon_off_range : refusal_in (outcome page (codes "PM;PD1,1,8388607.1,0;")) ≡ Some (OffRange 3)
 unfolding place_along back_along all_pens default_colours empty line_step core.step trace_step
 polygon_off_range = refl
 

@@ -1,6 +1,6 @@
 -- Arcs through three places and Bezier curves (HP-GL/2 guide: AT, RT, BZ and BR). The pen goes from place to place, in
 -- the line type if it is down.
-use Rattle.std.specs.Prelude.{Bool, true, false, List, [], ◌∷◌, Option, Some, None, if◌then◌else◌}
+use Rattle.std.specs.Prelude.{Bool, true, false, List, ℕ, [], ◌∷◌, Option, Some, None, if◌then◌else◌}
 use Rattle.exact.specs.declared.spot.Spot.{Spot}
 use Rattle.curves.specs.Arcs.{arc_places}
 use Rattle.curves.specs.Beziers.{bezier_places}
@@ -46,18 +46,18 @@ abbrev pub gone_over : FullWorld → List Spot → Position → Option FullWorld
 gone_over w places end = full_followed (lined w places) (λ (v : FullWorld). Some (arrived end v))
 
 -- the points of a curve have to be in range, too, even if the pen does not come to them
-abbrev pub if_in_range : List Spot → Option FullWorld → Option FullWorld
-if_in_range places o = if are_in_range places then o else None
+abbrev pub if_in_range : ℕ → List Spot → Option FullWorld → Option FullWorld
+if_in_range range places o = if are_in_range range places then o else None
 
 -- whether a point of a curve is in range: the pen stays where it is
 abbrev pub point_tested : FullWorld → Bool → Point → Option FullWorld
-point_tested w relative p = if_in_range ((curve_pen w relative p).place ∷ []) (Some w)
+point_tested w relative p = if_in_range w.core.range ((curve_pen w relative p).place ∷ []) (Some w)
 
 abbrev pub arc_step : FullWorld → Bool → ArcPoints → Option FullWorld
 arc_step w relative a =
     let through = (curve_pen w relative a.through).place in
     let end = curve_pen w relative a.to in
-    if_in_range (through ∷ (end.place ∷ []))
+    if_in_range w.core.range (through ∷ (end.place ∷ []))
     (gone_over w (arc_places w.core.state.place through end.place) end)
 
 abbrev pub curve_step : FullWorld → Bool → CurvePoints → Option FullWorld
@@ -65,5 +65,5 @@ curve_step w relative c =
     let first = (curve_pen w relative c.first).place in
     let second = (curve_pen w relative c.second).place in
     let end = curve_pen w relative c.to in
-    if_in_range (first ∷ (second ∷ (end.place ∷ [])))
+    if_in_range w.core.range (first ∷ (second ∷ (end.place ∷ [])))
     (gone_over w (bezier_places w.core.state.place first second end.place) end)

@@ -3,7 +3,8 @@ use Rattle.std.specs.Prelude.{List, [], ◌∷◌, ◌++◌, map, Option}
 use Rattle.exact.specs.declared.spot.Spot.{Spot}
 use Rattle.plot_page.specs.Segments.{Segment}
 use Rattle.hpgl_plot.specs.Machine as core
-use Rattle.line_types.specs.Bounds.{IsPlace}
+use Rattle.hpgl_plot.specs.Bounds.{IsInRange}
+use Rattle.plot_page.specs.declared.stroke.TheConstants.{FARTHEST_END}
 use Rattle.line_types.specs.declared.run.Run.{Run}
 use Rattle.line_types.specs.LineTypes.{LineShape, dashes_of, run_after}
 
@@ -34,9 +35,9 @@ abbrev pub run_through : LineShape → Option Run → List Segment → Option Ru
 run_through shape run [] = run
 run_through shape run (s ∷ rest) = run_through shape (run_past shape run s) rest
 
--- both ends of a dash are places
+-- both ends of a dash are those of a stroke
 abbrev pub IsDash : Spot × Spot → Type 0
-IsDash d = IsPlace d.0 × IsPlace d.1
+IsDash d = IsInRange FARTHEST_END d.0 × IsInRange FARTHEST_END d.1
 
 -- a stroke more
 abbrev pub with_one_more : core.World → Segment → core.World

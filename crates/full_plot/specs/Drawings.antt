@@ -4,6 +4,7 @@ use Rattle.std.specs.Prelude.{Bool, ◌||◌, if◌then◌else◌, Option, Some,
 use Rattle.std.specs.List.{All}
 use Rattle.areas.specs.Shapes.{all_counted, areas_between}
 use Rattle.areas.specs.declared.area.Area.{Area}
+use Rattle.carousel.specs.Carousels.{empty}
 use Rattle.carousel.specs.declared.carousel.Carousel.{Carousel}
 use Rattle.character_sets.specs.declared.encoding.Encoding.{Encoding}
 use Rattle.character_sets.specs.declared.encoding.Encoding.TheVariants.{ByPlot}
@@ -29,7 +30,7 @@ use Rattle.full_plot.specs.Machine.{ends_with}
 -- before the first item, if texts are read by the sets that the plot chooses
 abbrev pub full_at_start : Page → FullWorld
 full_at_start page = record {
-  core = core.at_start page;
+  core = core.far_start empty page;
   context = first_context;
   style = usual_style;
   run = None;
@@ -48,7 +49,7 @@ full_at_start page = record {
 -- with texts read as the user says, and the pens of a carousel
 abbrev pub full_at_start_with : Encoding → Carousel → Page → FullWorld
 full_at_start_with encoding carousel page =
-    record (full_at_start page) { core = core.at_start_with carousel page; encoding = encoding }
+    record (full_at_start page) { core = core.far_start carousel page; encoding = encoding }
 
 -- there were more strokes than may be kept, or those that are kept are too many with the work that counts besides, or
 -- the buffer has as many places

@@ -5,18 +5,21 @@ use Rattle.std.specs.List.{All, list_all, flat_map, range_with_len}
 use Rattle.character_sets.specs.Ascii.{reads_ascii}
 use Rattle.character_sets.specs.declared.encoding.Encoding.{Encoding}
 use Rattle.lettering.specs.CoreTexts.{is_core_byte}
+use Rattle.carousel.specs.Carousels.{empty}
 use Rattle.carousel.specs.declared.carousel.Carousel.{Carousel}
 use Rattle.labels.specs.Labels.{AreInOrder}
 use Rattle.plot_page.specs.Segments.{Segment}
 use Rattle.plot_page.specs.declared.page.Page.{Page}
+use Rattle.plot_page.specs.declared.stroke.TheConstants.{FARTHEST_END, FARTHEST_PLACE}
 use Rattle.hpgl_text.specs.Shapes.{ItemShape, BodyShape, Params, Further, Label, Terminator, Kept, Symbol, Known}
 use Rattle.hpgl_text.specs.declared.further.Further.TheVariants.{BeginPlot, BezierAbsolute, BezierRelative}
 use Rattle.hpgl_text.specs.declared.instruction.Instruction.TheVariants.{Initialize, PenUp, PenDown, PlotAbsolute, PlotRelative}
+use Rattle.plot_settings.specs.Meanings.{Load, Step}
 use Rattle.plot_settings.specs.Slants.{is_off_axis}
 use Rattle.hpgl_plot.specs.declared.note.NoteKind.TheVariants.{Bad}
 use Rattle.hpgl_plot.specs.declared.fault.PlotFault.{PlotFault}
 use Rattle.hpgl_plot.specs.Machine as core
-use Rattle.hpgl_plot.specs.Strokes.{strokes, strokes_with, refusal, refusal_with}
+use Rattle.hpgl_plot.specs.Strokes.{strokes, strokes_with, refusal_after}
 use Rattle.hpgl_plot.specs.Notes as noting
 use Rattle.full_settings.specs.Characters.{usual_characters}
 use Rattle.full_plot.specs.Drawings.{full_at_start, full_at_start_with, full_runs, outcome_with, refusal_in}
@@ -53,15 +56,27 @@ core_part (Err fault) = Err fault
 -- one item after another
 abbrev pub CoreRunsAsInCore : Type 0
 CoreRunsAsInCore = (page : Page) (items : List ItemShape) → All IsCoreItem items
-    → core_part (full_runs (full_at_start page) items) ≡ core.runs (core.at_start page) items
+    → core_part (full_runs (full_at_start page) items) ≡ core.runs (core.far_start empty page) items
 
 -- the whole of a plot: it has this refusal, or else these strokes, on one sheet; and no areas
 abbrev pub Draws : Result FullWorld PlotFault → Option PlotFault → List Segment → Type 0
 Draws r refused drawn = (refusal_in r ≡ refused) × (refused ≡ None → strokes_in r ≡ drawn) × (ends_in r ≡ []) × (areas_of r ≡ [])
 
+-- the refusal of a plot of items of core where places lie as far as a number leads
+abbrev pub far_refusal_with : Carousel → Page → List ItemShape → Option PlotFault
+far_refusal_with carousel page items = refusal_after FARTHEST_END page (Load carousel ∷ []) 0 items
+
+abbrev pub far_refusal : Page → List ItemShape → Option PlotFault
+far_refusal page items = refusal_after FARTHEST_END page [] 0 items
+
+-- what core accepts, with or without pens that are loaded before, has none
+abbrev pub CoreAcceptsNoMore : Type 0
+CoreAcceptsNoMore = (page : Page) (before : List Step) (items : List ItemShape)
+    → refusal_after FARTHEST_PLACE page before 0 items ≡ None → refusal_after FARTHEST_END page before 0 items ≡ None
+
 abbrev pub CoreDrawsAsInCore : Type 0
 CoreDrawsAsInCore = (page : Page) (items : List ItemShape) → All IsCoreItem items
-    → Draws (full_runs (full_at_start page) items) (refusal page items) (strokes page items)
+    → Draws (full_runs (full_at_start page) items) (far_refusal page items) (strokes page items)
 
 -- the same with the same pens in both, if texts are read by a set that has ASCII, or as UTF-8
 abbrev pub CoreDrawsAsInCoreWith : Type 0
@@ -69,7 +84,7 @@ CoreDrawsAsInCoreWith =
     (encoding : Encoding) (carousel : Carousel) (page : Page) (items : List ItemShape)
     → IsTrue (reads_ascii encoding usual_characters.sets) → All IsCoreItem items
     → Draws (full_runs (full_at_start_with encoding carousel page) items)
-    (refusal_with carousel page items) (strokes_with carousel page items)
+    (far_refusal_with carousel page items) (strokes_with carousel page items)
 
 -- what is noted on them
 abbrev pub CoreNotedAsInCore : Type 0

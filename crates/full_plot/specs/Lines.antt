@@ -34,7 +34,7 @@ drawn_in_type w lines = record w {
 -- the lines along these places, in the line type: None if a place is out of range
 abbrev pub drawn_along : FullWorld → Bool → List Spot → Option FullWorld
 drawn_along w draws places =
-    if are_in_range places then Some (drawn_in_type w (lines_along w.core.state draws places)) else None
+    if are_in_range w.core.range places then Some (drawn_in_type w (lines_along w.core.state draws places)) else None
 
 abbrev pub with_state : FullWorld → State → FullWorld
 with_state w s = record w { core = record w.core { state = s } }

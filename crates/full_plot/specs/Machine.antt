@@ -146,7 +146,7 @@ with_anchor w q = record w { filling = record w.filling { anchor = q } }
 -- AC: the place of these coordinates, which must be in range
 abbrev pub anchored : FullWorld → Anchor → Option FullWorld
 anchored w PageOrigin = Some (with_anchor w page_origin)
-anchored w (At p) = let q = (curve_pen w false p).place in if_in_range (q ∷ []) (Some (with_anchor w q))
+anchored w (At p) = let q = (curve_pen w false p).place in if_in_range w.core.range (q ∷ []) (Some (with_anchor w q))
 
 -- RA, RR and WG fill what is in the buffer then, by odd counts
 abbrev pub then_filled : Option FullWorld → Option FullWorld

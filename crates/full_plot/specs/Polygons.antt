@@ -22,7 +22,7 @@ reached_all is_drawn b (q ∷ qs) = reached_all is_drawn (reached_at b q is_draw
 abbrev pub reached : FullWorld → List Spot → Option FullWorld
 reached w places =
     let s = w.core.state in
-    if are_in_range (s.place ∷ places)
+    if are_in_range w.core.range (s.place ∷ places)
     then Some (record w { buffer = reached_all s.is_down w.buffer places })
     else None
 
@@ -41,7 +41,7 @@ only_figure places = figure_in empty_buffer places
 
 -- it is the only polygon in the buffer: None if a place is out of range
 abbrev pub figure_kept : FullWorld → List Spot → Option FullWorld
-figure_kept w places = if are_in_range places then Some (record w { buffer = only_figure places }) else None
+figure_kept w places = if are_in_range w.core.range places then Some (record w { buffer = only_figure places }) else None
 
 abbrev pub with_buffer : Contents → Option FullWorld → Option FullWorld
 with_buffer b None = None
@@ -59,7 +59,7 @@ traced w t places = reached_past w.core.state.is_down w.buffer places
 unfoldable pub trace_step : FullWorld → Step → Option FullWorld
 trace_step w t =
     let places = places_of w t in
-    if are_in_range places then Some (record (with_state w (state_after w t)) { buffer = traced w t places }) else None
+    if are_in_range w.core.range places then Some (record (with_state w (state_after w t)) { buffer = traced w t places }) else None
 
 -- a step with lines, in polygon mode or out of it
 abbrev pub lined_by : Bool → FullWorld → Step → Option FullWorld

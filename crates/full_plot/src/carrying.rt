@@ -29,7 +29,7 @@ impl FullPlotter {
     pub fn with(alloc: Global, encoding: Encoding, page: &Page, carousel: &Carousel) -> FullPlotter
         ensures { seen result ≡ full_at_start_with encoding carousel.now page.now }
     {
-        let plotter = Plotter::with_pens(alloc, page, carousel);
+        let plotter = Plotter::far(alloc, page, carousel);
         let margin = plotter.state.place;
         FullPlotter {
             plotter,

@@ -56,7 +56,7 @@ impl FullPlotter {
     /// The pen at a point, if its place is in range.
     pub fn pen_at(&self, is_relative: bool, point: Point) -> Result<Position, Stop>
         ensures value { IfOk result (λ pen. pen ≡ steps.curve_pen (seen self.now) is_relative point) }
-        ensures in_range { IfOk result (λ pen. IsInRange pen.place) }
+        ensures in_range { IfOk result (λ pen. IsInRange self.now.plotter.range pen.place) }
         ensures runs { Runs (steps.point_tested (seen self.now) is_relative point) (seen self.now) result }
     {
         let coordinates = self.plotter.target(is_relative, point.x, point.y);
@@ -67,7 +67,7 @@ impl FullPlotter {
 
     // The pen goes over places to its end, where the left margin is then, too.
     fn go_over(&mut self, places: &[Spot], end: Position) -> Result<(), Stop>
-        requires in_range { IsInRange end.place }
+        requires in_range { IsInRange self.old.plotter.range end.place }
         requires placed { end.place ≡ place self.old.plotter.page self.old.plotter.state.frame end.coordinates }
         ensures { Runs (steps.gone_over (seen self.old) places.now end) (seen self.new) result }
     {

@@ -2,7 +2,7 @@
 ghost use Rattle.std.specs.Prelude.{◌≡◌, ◌∷◌, [], All, IfOk, IfErr, Some, map};
 ghost use Rattle.hpgl_plot.specs.Bounds.{IsInRange};
 ghost use Rattle.hpgl_plot.specs.Machine as core;
-ghost use Rattle.line_types.specs.Bounds.{IsPlace};
+ghost use Rattle.plot_page.specs.declared.stroke.TheConstants.{FARTHEST_END};
 ghost use Rattle.line_types.specs.LineTypes.{line_shape};
 ghost use Rattle.full_plot.specs.Lines.{drawn_in_type, drawn_along, shape_in};
 ghost use Rattle.full_plot.specs.Machine.{seen, Runs};
@@ -48,8 +48,8 @@ impl FullPlotter {
         line_type: &LineType,
     ) -> Result<(), Stop>
         requires shape { line_shape line_type.now ≡ shape_in (seen self.old) }
-        requires from_in { IsInRange from }
-        ensures in_range { IfOk result (λ _. IsInRange place) }
+        requires from_in { IsInRange self.old.plotter.range from }
+        ensures in_range { IfOk result (λ _. IsInRange self.new.plotter.range place) }
         ensures runs { Runs (drawn_along (seen self.old) draws (from ∷ (place ∷ []))) (seen self.new) result }
     {
         self.plotter.begin(place)?;
@@ -108,6 +108,8 @@ fn keep(plotter: &mut Plotter, stroke: Stroke) -> Result<(), Stop>
 fn measured(line: &Stroke) -> Line
     ensures from { result.from ≡ from_of line.now }
     ensures to { result.to ≡ to_of line.now }
+    ensures from_in { IsInRange FARTHEST_END result.from }
+    ensures to_in { IsInRange FARTHEST_END result.to }
 {
     let from = Spot {
         x: i128::from(line.ax),
@@ -122,8 +124,8 @@ fn measured(line: &Stroke) -> Line
 
 // The part of a line between two places.
 fn part(line: &Stroke, from: Spot, to: Spot) -> Stroke
-    requires from_in { IsPlace from }
-    requires to_in { IsPlace to }
+    requires from_in { IsInRange FARTHEST_END from }
+    requires to_in { IsInRange FARTHEST_END to }
     ensures { result ≡ dash_of line.now (from, to) }
 {
     Stroke {

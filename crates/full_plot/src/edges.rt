@@ -1,11 +1,13 @@
 //! Drawing the edges of the polygons in the buffer.
-ghost use Rattle.std.specs.Prelude.{◌≡◌, ◌∷◌, [], map, Some};
+ghost use Rattle.std.specs.Prelude.{◌≡◌, ◌∷◌, [], map, Some, IfOk, IfErr};
+ghost use Rattle.hpgl_plot.specs.Bounds.{IsInRange};
 ghost use Rattle.line_types.specs.LineTypes.{line_shape};
 ghost use Rattle.full_plot.specs.Lines.{drawn_in_type, shape_in};
 ghost use Rattle.full_plot.specs.Polygons.{edge_line, drawn_edges};
 ghost use Rattle.full_plot.specs.Machine.{seen, full_step, Runs, EdgeBuffer};
 
 use crate::plotter::FullPlotter;
+use exact::Spot;
 use hpgl_plot::Stop;
 use line_types::LineType;
 use polygons::{Buffer, Edge};
@@ -46,7 +48,25 @@ impl FullPlotter {
         if !edge.is_drawn {
             return Ok(());
         }
-        let line = self.plotter.line(edge.from.spot(), edge.to.spot());
+        let (from, to) = (edge.from.spot(), edge.to.spot());
+        self.ends_in_range(from, to)?;
+        let line = self.plotter.line(from, to);
         self.dash_line(&line, line_type)
+    }
+
+    /// Tests the ends of a line of a polygon. They were tested when its places were put into the buffer, so none is refused here;
+    /// if one were, the plot would end as it does where memory runs out.
+    pub fn ends_in_range(&self, from: Spot, to: Spot) -> Result<(), Stop>
+        ensures from_in { IfOk result (λ _. IsInRange self.now.plotter.range from) }
+        ensures to_in { IfOk result (λ _. IsInRange self.now.plotter.range to) }
+        ensures memory { IfErr result (λ e. e ≡ Stop.Memory) }
+    {
+        let Ok(()) = self.plotter.begin(from) else {
+            return Err(Stop::Memory);
+        };
+        let Ok(()) = self.plotter.begin(to) else {
+            return Err(Stop::Memory);
+        };
+        Ok(())
     }
 }

@@ -178,6 +178,7 @@ impl FullPlotter {
         ensures { Runs (Some (fills.with_span ink (seen self.old) span)) (seen self.new) result }
     {
         let (from, to) = (span.from.spot(), span.to.spot());
+        self.ends_in_range(from, to)?;
         match ink {
             Ink::Width(width) => {
                 let stroke = self.plotter.line_of_width(width, from, to);

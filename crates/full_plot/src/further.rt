@@ -170,7 +170,7 @@ impl FullPlotter {
 // The width of the page as RO turns it.
 fn page_width(page: &Page, rotation: Rotation) -> u32
     ensures value { result ≡ machine.page_width page.now rotation }
-    ensures most { result ≤ 65536 }
+    ensures most { result ≤ 524288 }
 {
     match rotation {
         Rotation::None | Rotation::Half => page.width,
@@ -181,7 +181,7 @@ fn page_width(page: &Page, rotation: Rotation) -> u32
 // The height of the page as RO turns it.
 fn page_height(page: &Page, rotation: Rotation) -> u32
     ensures value { result ≡ machine.page_height page.now rotation }
-    ensures most { result ≤ 65536 }
+    ensures most { result ≤ 524288 }
 {
     match rotation {
         Rotation::None | Rotation::Half => page.height,

@@ -2,6 +2,7 @@
 ghost use Rattle.std.specs.Prelude.{◌≡◌, ◌≤◌, ◌^◌, ◌∷◌, [], map, nat_abs, true};
 ghost use Rattle.directions.specs.Bounds.{IsWithin};
 ghost use Rattle.hpgl_plot.specs.Bounds.{IsInRange};
+ghost use Rattle.plot_page.specs.declared.stroke.TheConstants.{FARTHEST_END};
 ghost use Rattle.hpgl_plot.specs.Machine as core;
 ghost use Rattle.full_plot.specs.Texts.{moved_by, line_at, cut_far, margin_by};
 
@@ -27,7 +28,7 @@ pub fn ink(plotter: &mut Plotter, strokes: Strokes<'_>) -> Result<(), Stop>
 /// Draws a stroke from one offset to another.
 #[inline(always)]
 pub fn ink_stroke(plotter: &mut Plotter, start: Spot, from: Spot, to: Spot) -> Result<(), Stop>
-    requires start_in { IsInRange start }
+    requires start_in { IsInRange FARTHEST_END start }
     requires from_in { IsWithin (2 ^ 95) from }
     requires to_in { IsWithin (2 ^ 95) to }
     ensures { core.Runs

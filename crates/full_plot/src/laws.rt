@@ -1,15 +1,16 @@
 //! Laws of the profile full, over the definitions only.
-ghost use Rattle.full_plot.specs.Laws.{BadItemsDoNothing, CoreRunsAsInCore, CoreDrawsAsInCore, CoreNotedAsInCore};
+ghost use Rattle.full_plot.specs.Laws.{BadItemsDoNothing, CoreAcceptsNoMore, CoreRunsAsInCore, CoreDrawsAsInCore, CoreNotedAsInCore};
 ghost use Rattle.full_plot.specs.Laws.{CoreDrawsAsInCoreWith, InitializeRestarts, LabelsAreInOrder, NotesAreTold};
 ghost use Rattle.full_plot.specs.Laws.{PolygonModeDrawsNothing, SheetsJoin};
 
 /// Items of core leave in the profile full what they leave in core, on one sheet, with the line style
-/// of the start, or are refused as in core.
+/// of the start, or are refused as there if places lay as far as a number leads.
 pub fn core_runs_as_in_core()
     ensures { CoreRunsAsInCore }
 {}
 
-/// A plot of items of core has its strokes and its refusal of core in the profile full, on one sheet.
+/// A plot of items of core has its strokes of core in the profile full, on one sheet, and the refusal that it would have
+/// in core if places lay as far as a number leads.
 pub fn core_draws_as_in_core()
     ensures { CoreDrawsAsInCore }
 {}
@@ -18,6 +19,11 @@ pub fn core_draws_as_in_core()
 /// or as UTF-8.
 pub fn core_draws_as_in_core_with()
     ensures { CoreDrawsAsInCoreWith }
+{}
+
+/// A plot that core accepts has no such refusal.
+pub fn core_accepts_no_more()
+    ensures { CoreAcceptsNoMore }
 {}
 
 /// What is noted on items of core in the profile full is what is noted in core.

@@ -1,6 +1,7 @@
 //! Polygon mode: the places that the pen comes to are points of a polygon, and nothing is drawn.
 ghost use Rattle.std.specs.Prelude.{◌≡◌, ◌∷◌, [], All, Some, IfOk, IfErr};
 ghost use Rattle.hpgl_plot.specs.Bounds.{IsInRange};
+ghost use Rattle.plot_page.specs.declared.stroke.TheConstants.{FARTHEST_END};
 ghost use Rattle.plot_settings.specs.Bounds.{IsArc, IsCircle};
 ghost use Rattle.plot_settings.specs.Meanings.{DrawArc, DrawCircle, Go};
 ghost use Rattle.polygons.specs.Buffers.{closed};
@@ -95,8 +96,8 @@ impl FullPlotter {
 
 // Places are a polygon of its own, whose edges are drawn.
 fn put_figure(buffer: &mut Buffer, start: Spot, places: &[Spot]) -> Result<(), Stop>
-    requires start_in { IsInRange start }
-    requires places_in { All IsInRange places.now }
+    requires start_in { IsInRange FARTHEST_END start }
+    requires places_in { All (IsInRange FARTHEST_END) places.now }
     ensures figure { IfOk result (λ _. buffer.new ≡ polygons.figure_in buffer.old (start ∷ places.now)) }
     ensures memory { IfErr result (λ e. e ≡ Stop.Memory) }
 {
@@ -115,7 +116,7 @@ fn close(buffer: &mut Buffer, is_drawn: bool) -> Result<(), Stop>
 
 // Places are further points of the polygon.
 fn reach_places(buffer: &mut Buffer, places: &[Spot], is_drawn: bool) -> Result<(), Stop>
-    requires { All IsInRange places.now }
+    requires { All (IsInRange FARTHEST_END) places.now }
     ensures reached { IfOk result (λ _. buffer.new ≡ polygons.reached_all is_drawn buffer.old places.now) }
     ensures memory { IfErr result (λ e. e ≡ Stop.Memory) }
 {

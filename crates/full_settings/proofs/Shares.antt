@@ -32,15 +32,15 @@ share_in d p h k =
 pub record IsPagePart (p : ℤ) (side : ℕ) : Type 0 where
   pub percent_fits : FitsSigned w128 p
   pub product_fits : FitsSigned w128 (p *ℤ pos side)
-  pub most : nat_abs (round (quotient (p *ℤ pos side) (pos 100000000))) ≤ 655360
+  pub most : nat_abs (round (quotient (p *ℤ pos side) (pos 100000000))) ≤ 5242880
 
-pub page_part_in : (p : ℤ) (side : ℕ) → nat_abs p ≤ 1000000000 → side ≤ 65536 → IsPagePart p side
+pub page_part_in : (p : ℤ) (side : ℕ) → nat_abs p ≤ 1000000000 → side ≤ 524288 → IsPagePart p side
 page_part_in p side h k =
-    let b = product_within p (pos side) 1000000000 65536 h (omega (arith, k)) in
+    let b = product_within p (pos side) 1000000000 524288 h (omega (arith, k)) in
     record {
       percent_fits = omega (arith, ints, h);
       product_fits = omega (arith, ints, b);
-      most = within 100000000 655360 (p *ℤ pos side) (omega arith) (omega (arith, b));
+      most = within 100000000 5242880 (p *ℤ pos side) (omega arith) (omega (arith, b));
     }
 
 -- a run and a rise by the distances from P1 to P2 are not both 0 either

@@ -76,14 +76,14 @@ fn both_points(first: Option<Pair<i64>>, last: Option<Pair<i64>>) -> Option<Rela
     }
 }
 
-/// What an IR sets on a page that is `width` by `height` plotter units as it is turned, each 65536 at most,
-/// with the corner (-`left`, -`below`), each 65536 at most.
+/// What an IR sets on a page that is `width` by `height` plotter units as it is turned, each 524288 at most,
+/// with the corner (-`left`, -`below`), each 524288 at most.
 pub fn points_of(points: RelativePoints, width: u32, height: u32, left: u32, below: u32) -> Setting
     requires points_in { IsRelativePoints points }
-    requires width_in { width ≤ 65536 }
-    requires height_in { height ≤ 65536 }
-    requires left_in { left ≤ 65536 }
-    requires below_in { below ≤ 65536 }
+    requires width_in { width ≤ 524288 }
+    requires height_in { height ≤ 524288 }
+    requires left_in { left ≤ 524288 }
+    requires below_in { below ≤ 524288 }
     ensures value { result ≡ setting_of points width height left below }
     ensures sound { IsSetting result }
 {
@@ -103,10 +103,10 @@ pub fn points_of(points: RelativePoints, width: u32, height: u32, left: u32, bel
 // coordinate in plotter units.
 fn side_part(percent: i64, side: u32, before: u32) -> i64
     requires percent_in { nat_abs percent ≤ 1000000000 }
-    requires side_in { side ≤ 65536 }
-    requires before_in { before ≤ 65536 }
+    requires side_in { side ≤ 524288 }
+    requires before_in { before ≤ 524288 }
     ensures value { result ≡ side_part percent side before }
-    ensures most { nat_abs result ≤ 2 ^ 20 }
+    ensures most { nat_abs result ≤ 2 ^ 23 }
 {
     rounded(i128::from(percent) * i128::from(side), 100_000_000) as i64 - i64::from(before)
 }
@@ -115,8 +115,8 @@ fn side_part(percent: i64, side: u32, before: u32) -> i64
 fn ends_of(first: i64, last: i64, side: u32, before: u32) -> Ends
     requires first_in { nat_abs first ≤ 1000000000 }
     requires last_in { nat_abs last ≤ 1000000000 }
-    requires side_in { side ≤ 65536 }
-    requires before_in { before ≤ 65536 }
+    requires side_in { side ≤ 524288 }
+    requires before_in { before ≤ 524288 }
     ensures value { result ≡ ends_at (side_part first side before) (side_part last side before) }
     ensures sound { IsEnds result }
 {
@@ -128,8 +128,8 @@ fn ends_of(first: i64, last: i64, side: u32, before: u32) -> Ends
 
 // P1 and P2 on an axis: where both are the same, P2 gets one plotter unit more.
 fn ends_at(first: i64, last: i64) -> Ends
-    requires first_in { nat_abs first ≤ 2 ^ 20 }
-    requires last_in { nat_abs last ≤ 2 ^ 20 }
+    requires first_in { nat_abs first ≤ 2 ^ 23 }
+    requires last_in { nat_abs last ≤ 2 ^ 23 }
     ensures value { result ≡ ends_at first last }
     ensures sound { IsEnds result }
 {

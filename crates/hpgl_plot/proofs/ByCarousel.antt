@@ -16,6 +16,7 @@ use Rattle.hpgl_text.specs.declared.instruction.Instruction.{Instruction}
 use Rattle.hpgl_text.specs.declared.instruction.Instruction.TheVariants as is
 use Rattle.plot_page.specs.declared.colour.Colour.{Colour}
 use Rattle.plot_page.specs.declared.page.Page.{Page}
+use Rattle.plot_page.specs.declared.stroke.TheConstants.{FARTHEST_PLACE}
 use Rattle.plot_page.specs.Segments.{Segment}
 use Rattle.plot_settings.specs.Colours.{black}
 use Rattle.plot_settings.specs.Meanings.{Step, Set, Touch, Lower, Relate, Move, Go, Edge, DrawCircle, DrawArc, Write, Load, asks, body_steps, edges, entry_steps, lowered_then, meaning, moves, part_steps, steps_of}
@@ -223,12 +224,13 @@ items_loaded page c a b (i ∷ more) h =
     ∙ sym (map-append (by_carousel c) (strokes_from page b (steps_of i)) (strokes_after page (history b (steps_of i)) more))
 
 -- refusals
-range_loaded : (page : Page) (c : Carousel) (a b ts : List Step) → AreUsual ts → IsLoaded page c a b → stay_in_range page a ts ≡ stay_in_range page b ts
-range_loaded page c a b [] u h = refl
-range_loaded page c a b (t ∷ ts) u h =
+range_loaded : (range : ℕ) (page : Page) (c : Carousel) (a b ts : List Step) → AreUsual ts → IsLoaded page c a b
+    → stay_in_range range page a ts ≡ stay_in_range range page b ts
+range_loaded range page c a b [] u h = refl
+range_loaded range page c a b (t ∷ ts) u h =
     ap₂ (λ (x y : Bool). x && y)
-    (ap (λ (x : State). list_all are_in_range (path page x t).lines) h.state_is ∙ ap (λ (q : Path). list_all are_in_range q.lines) (path_loaded page c (state_of page b) t))
-    (range_loaded page c (t ∷ a) (t ∷ b) ts u.1 (next_loaded page c a b t u.0 h))
+    (ap (λ (x : State). list_all (are_in_range range) (path page x t).lines) h.state_is ∙ ap (λ (q : Path). list_all (are_in_range range) q.lines) (path_loaded page c (state_of page b) t))
+    (range_loaded range page c (t ∷ a) (t ∷ b) ts u.1 (next_loaded page c a b t u.0 h))
 
 -- how an item is refused, with the refusal of the items after it
 abbrev refused_by : ℕ → Bool → ℕ → Option PlotFault → Option PlotFault
@@ -237,17 +239,17 @@ refused_by at in_range total rest =
     if nat_lt 4194304 total then Some (TooManyStrokes at) else
     rest
 
-refused_loaded : (page : Page) (c : Carousel) (a b : List Step) (count : ℕ) (items : List ItemShape) → IsLoaded page c a b
-    → refusal_after page a count items ≡ refusal_after page b count items
-refused_loaded page c a b count [] h = refl
-refused_loaded page c a b count (i ∷ more) h =
+refused_loaded : (range : ℕ) (page : Page) (c : Carousel) (a b : List Step) (count : ℕ) (items : List ItemShape) → IsLoaded page c a b
+    → refusal_after range page a count items ≡ refusal_after range page b count items
+refused_loaded range page c a b count [] h = refl
+refused_loaded range page c a b count (i ∷ more) h =
     let ts = steps_of i in
     let u : AreUsual ts = body_usual i.body in
     let as_many : length (strokes_from page a ts) ≡ length (strokes_from page b ts) =
     ap length (steps_loaded page c a b ts u h) ∙ length-map (strokes_from page b ts) (by_carousel c) in
-    ap₂ (λ (x : Bool) (n : ℕ). refused_by i.at x (count + n) (refusal_after page (history a ts) (count + n) more)) (range_loaded page c a b ts u h) as_many
-    ∙ ap (λ (r : Option PlotFault). refused_by i.at (stay_in_range page b ts) (count + length (strokes_from page b ts)) r)
-    (refused_loaded page c (history a ts) (history b ts) _ more (history_loaded page c a b ts u h))
+    ap₂ (λ (x : Bool) (n : ℕ). refused_by i.at x (count + n) (refusal_after range page (history a ts) (count + n) more)) (range_loaded range page c a b ts u h) as_many
+    ∙ ap (λ (r : Option PlotFault). refused_by i.at (stay_in_range range page b ts) (count + length (strokes_from page b ts)) r)
+    (refused_loaded range page c (history a ts) (history b ts) _ more (history_loaded page c a b ts u h))
 
 -- a carousel that is loaded before the first item
 first_loaded : (page : Page) (c : Carousel) → IsLoaded page c (Load c ∷ []) []
@@ -255,7 +257,7 @@ first_loaded page c = record { state_is = refl; none = refl }
 
 pub only_pens : CarouselChangesOnlyPens
 only_pens c page items =
-    (items_loaded page c (Load c ∷ []) [] items (first_loaded page c), refused_loaded page c (Load c ∷ []) [] 0 items (first_loaded page c))
+    (items_loaded page c (Load c ∷ []) [] items (first_loaded page c), refused_loaded FARTHEST_PLACE page c (Load c ∷ []) [] 0 items (first_loaded page c))
 
 -- an empty one changes nothing
 unchanged : (ss : List Segment) → map (by_carousel empty) ss ≡ ss

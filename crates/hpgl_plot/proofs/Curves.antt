@@ -34,47 +34,47 @@ use Rattle.hpgl_plot.specs.Machine.{World, travelled, Runs}
 use Rattle.plot_settings.specs.Meanings.{DrawCircle, DrawArc}
 use Rattle.hpgl_plot.proofs.Fed.{travelled_more, travelled_never, travelled_one}
 use Rattle.hpgl_plot.specs.OnPage.{margin}
-use Rattle.hpgl_plot.proofs.OnAxes.{axis_is, margin_in}
+use Rattle.hpgl_plot.proofs.OnAxes.{axis_is, margin_near}
 
 small_along : (n : AxisName) (page : Page) (axes : Pair Axis) (f : Frame) (u t : ℤ) → AreAxes page f axes → IsNear (on_axis n axes) u → nat_abs t ≤ 2 ^ 55
     → IsSmallIn page f (u +ℤ t)
 small_along n page axes f u t h k l =
-    near_small n f.points f.scaling (λ m. margin m page) u t h.points h.scaling (margin_in page)
+    near_small n f.points f.scaling (λ m. margin m page) u t h.points h.scaling (margin_near page)
     (subst (λ (a : Axis). IsNear a u) (axis_is n page f axes h) k) l
 
-small_right : (page : Page) (axes : Pair Axis) (s : State) (t : ℤ) → IsSound page axes s → nat_abs t ≤ 2 ^ 55
+small_right : (page : Page) (range : ℕ) (axes : Pair Axis) (s : State) (t : ℤ) → IsSound page range axes s → nat_abs t ≤ 2 ^ 55
     → IsSmallIn page s.frame (s.coordinates.x +ℤ t)
-small_right page axes s t h k = small_along X page axes s.frame s.coordinates.x t h.framed h.x_near k
+small_right page range axes s t h k = small_along X page axes s.frame s.coordinates.x t h.framed h.x_near k
 
-small_above : (page : Page) (axes : Pair Axis) (s : State) (t : ℤ) → IsSound page axes s → nat_abs t ≤ 2 ^ 55
+small_above : (page : Page) (range : ℕ) (axes : Pair Axis) (s : State) (t : ℤ) → IsSound page range axes s → nat_abs t ≤ 2 ^ 55
     → IsSmallIn page s.frame (s.coordinates.y +ℤ t)
-small_above page axes s t h k = small_along Y page axes s.frame s.coordinates.y t h.framed h.y_near k
+small_above page range axes s t h k = small_along Y page axes s.frame s.coordinates.y t h.framed h.y_near k
 
-small_number : (page : Page) (axes : Pair Axis) (s : State) (t : ℤ) → IsSound page axes s → nat_abs t ≤ 2 ^ 55 → IsSmallIn page s.frame t
-small_number page axes s t h k =
+small_number : (page : Page) (range : ℕ) (axes : Pair Axis) (s : State) (t : ℤ) → IsSound page range axes s → nat_abs t ≤ 2 ^ 55 → IsSmallIn page s.frame t
+small_number page range axes s t h k =
     let f = s.frame in
-    number_small (line_in page f) t (λ n. line_of_axis_in n f.points f.scaling (margin n page) h.framed.points h.framed.scaling (margin_in page n)) k
+    number_small (line_in page f) t (λ n. line_of_axis_in n f.points f.scaling (margin n page) h.framed.points h.framed.scaling (margin_near page n)) k
 
 plus_0 : (u : ℤ) → u +ℤ pos 0 ≡ u
 plus_0 u = omega (arith, ints)
 
 -- where the pen is
-pub pen_small : (page : Page) (axes : Pair Axis) (s : State) → IsSound page axes s → AreSmall page s.frame s.coordinates
-pen_small page axes s h = record {
-  x_in = subst (λ (u : ℤ). IsSmallIn page s.frame u) (plus_0 s.coordinates.x) (small_right page axes s (pos 0) h (omega arith));
-  y_in = subst (λ (u : ℤ). IsSmallIn page s.frame u) (plus_0 s.coordinates.y) (small_above page axes s (pos 0) h (omega arith));
+pub pen_small : (page : Page) (range : ℕ) (axes : Pair Axis) (s : State) → IsSound page range axes s → AreSmall page s.frame s.coordinates
+pen_small page range axes s h = record {
+  x_in = subst (λ (u : ℤ). IsSmallIn page s.frame u) (plus_0 s.coordinates.x) (small_right page range axes s (pos 0) h (omega arith));
+  y_in = subst (λ (u : ℤ). IsSmallIn page s.frame u) (plus_0 s.coordinates.y) (small_above page range axes s (pos 0) h (omega arith));
 }
 
 -- on the right of the pen
-pub right_small : (page : Page) (axes : Pair Axis) (s : State) (n : ℤ) → IsSound page axes s → nat_abs n ≤ 2 ^ 55
+pub right_small : (page : Page) (range : ℕ) (axes : Pair Axis) (s : State) (n : ℤ) → IsSound page range axes s → nat_abs n ≤ 2 ^ 55
     → AreSmall page s.frame (record { x = s.coordinates.x +ℤ n; y = s.coordinates.y })
-right_small page axes s n h k = record { x_in = small_right page axes s n h k; y_in = (pen_small page axes s h).y_in }
+right_small page range axes s n h k = record { x_in = small_right page range axes s n h k; y_in = (pen_small page range axes s h).y_in }
 
 -- where a move may end
-pub target_small : (page : Page) (axes : Pair Axis) (s : State) (relative : Bool) (x y : ℤ) → IsSound page axes s → nat_abs x ≤ 2 ^ 55
+pub target_small : (page : Page) (range : ℕ) (axes : Pair Axis) (s : State) (relative : Bool) (x y : ℤ) → IsSound page range axes s → nat_abs x ≤ 2 ^ 55
     → nat_abs y ≤ 2 ^ 55 → AreSmall page s.frame (target relative s.coordinates x y)
-target_small page axes s true x y h k l = record { x_in = small_right page axes s x h k; y_in = small_above page axes s y h l }
-target_small page axes s false x y h k l = record { x_in = small_number page axes s x h k; y_in = small_number page axes s y h l }
+target_small page range axes s true x y h k l = record { x_in = small_right page range axes s x h k; y_in = small_above page range axes s y h l }
+target_small page range axes s false x y h k l = record { x_in = small_number page range axes s x h k; y_in = small_number page range axes s y h l }
 
 -- such coordinates are near enough for a turn
 pub small_spot : (page : Page) (f : Frame) (u : Spot) → AreSmall page f u → arc.IsNear u
@@ -176,7 +176,7 @@ no_chord page f c draws v w from q start k h e l t =
 
 -- past the last chord
 pub all_chords : (page : Page) (f : Frame) (c : Curve) (draws : Bool) (v w : World) (from start : Spot) (k : ℕ) → k ≡ chord_count c
-    → IsInRange from → Left page f c draws v from k w start
+    → IsInRange v.range from → Left page f c draws v from k w start
     → travelled w draws (start ∷ curve_places page f c) ≡ Some v
 all_chords page f c draws v w from start k e r l =
     let z : chord_count c - k ≡ 0 = omega arith in

@@ -60,12 +60,12 @@ line_strokes w false l ls = refl
 -- lines leave their strokes, if all their places are in range
 pub lines_are : (w : World) (draws : Bool) (ls : List (List Spot))
     → travelled_all w draws ls
-    ≡ (if list_all are_in_range ls then Some (with_strokes w w.state (if draws then flat_map (joined w.state) ls else [])) else None)
+    ≡ (if list_all (are_in_range w.range) ls then Some (with_strokes w w.state (if draws then flat_map (joined w.state) ls else [])) else None)
 lines_are w true [] = refl
 lines_are w false [] = refl
-lines_are w draws (l ∷ ls) = elim (cases_Bool (are_in_range l)) [
+lines_are w draws (l ∷ ls) = elim (cases_Bool (are_in_range w.range l)) [
   | inr t ↦ rw t refl
   | inl t ↦ rw t
       (lines_are (with_strokes w w.state (if draws then joined w.state l else [])) draws ls
-      ∙ ap (λ (u : World). if list_all are_in_range ls then Some u else None) (sym (line_strokes w draws l ls)))
+      ∙ ap (λ (u : World). if list_all (are_in_range w.range) ls then Some u else None) (sym (line_strokes w draws l ls)))
 ]

@@ -29,8 +29,8 @@ step_is w s =
     let p = path w.page w.state s in
     let e : step w s
     ≡ ends_in (after w.page w.state s)
-    (if list_all are_in_range p.lines then Some (with_strokes w w.state (path_strokes w.state p)) else None) =
-    elim (cases_Bool (list_all are_in_range p.lines)) [
+    (if list_all (are_in_range w.range) p.lines then Some (with_strokes w w.state (path_strokes w.state p)) else None) =
+    elim (cases_Bool (list_all (are_in_range w.range) p.lines)) [
       | inl t ↦ rw t refl
       | inr t ↦ rw t refl
     ] in
@@ -54,19 +54,20 @@ step_along w s p e =
 
 -- a line changes neither the page nor what is set
 travelled_stays : (w : World) (draws : Bool) (places : List Spot) → ends_in w.state (travelled w draws places) ≡ travelled w draws places
-travelled_stays w draws places = elim (cases_Bool (are_in_range places)) [
+travelled_stays w draws places = elim (cases_Bool (are_in_range w.range places)) [
   | inl t ↦ rw t refl
   | inr t ↦ rw t refl
 ]
 
 pub record IsKept (w u : World) : Type 0 where
   pub page_is : u.page ≡ w.page
+  pub range_is : u.range ≡ w.range
   pub state_is : u.state ≡ w.state
 
 pub travelled_keeps : (w u : World) (draws : Bool) (places : List Spot) → travelled w draws places ≡ Some u → IsKept w u
-travelled_keeps w u draws places h = elim (cases_Bool (are_in_range places)) [
+travelled_keeps w u draws places h = elim (cases_Bool (are_in_range w.range places)) [
   | inl t ↦ (let e = sym (same_Some _ _ (rw t at h)) in
-      record { page_is = ap (λ (v : World). v.page) e; state_is = ap (λ (v : World). v.state) e })
+      record { page_is = ap (λ (v : World). v.page) e; range_is = ap (λ (v : World). v.range) e; state_is = ap (λ (v : World). v.state) e })
   | inr t ↦ absurd (none-some u (rw t at h))
 ]
 
@@ -74,10 +75,10 @@ travelled_keeps w u draws places h = elim (cases_Bool (are_in_range places)) [
 pub lines_keep : (w u : World) (draws : Bool) (ls : List (List Spot)) → travelled_all w draws ls ≡ Some u → IsKept w u
 lines_keep w u draws [] h =
     let e = sym (same_Some _ _ h) in
-    record { page_is = ap (λ (v : World). v.page) e; state_is = ap (λ (v : World). v.state) e }
-lines_keep w u draws (l ∷ ls) h = elim (cases_Bool (list_all are_in_range (l ∷ ls))) [
+    record { page_is = ap (λ (v : World). v.page) e; range_is = ap (λ (v : World). v.range) e; state_is = ap (λ (v : World). v.state) e }
+lines_keep w u draws (l ∷ ls) h = elim (cases_Bool (list_all (are_in_range w.range) (l ∷ ls))) [
   | inl t ↦ (let e = sym (same_Some _ _ (rw t at (sym (lines_are w draws (l ∷ ls)) ∙ h))) in
-      record { page_is = ap (λ (v : World). v.page) e; state_is = ap (λ (v : World). v.state) e })
+      record { page_is = ap (λ (v : World). v.page) e; range_is = ap (λ (v : World). v.range) e; state_is = ap (λ (v : World). v.state) e })
   | inr t ↦ absurd (none-some u (rw t at (sym (lines_are w draws (l ∷ ls)) ∙ h)))
 ]
 
@@ -122,7 +123,7 @@ go_is w relative x y end e =
 -- a plain frame is as plain after a move
 pub plain_after : (w v : World) (x y : ℤ) → step w (Move x y) ≡ Some v → IsPlain w.page w.state.frame → IsPlain v.page v.state.frame
 unfolding step
-plain_after w v x y h p = elim (cases_Bool (list_all are_in_range (path w.page w.state (Move x y)).lines)) [
+plain_after w v x y h p = elim (cases_Bool (list_all (are_in_range w.range) (path w.page w.state (Move x y)).lines)) [
   | inl t ↦ (let e = same_Some _ _ (rw t at h) in subst (λ (u : World). IsPlain u.page u.state.frame) e p)
   | inr t ↦ absurd (none-some v (rw t at h))
 ]
@@ -130,7 +131,7 @@ plain_after w v x y h p = elim (cases_Bool (list_all are_in_range (path w.page w
 -- nor does any other step that leaves the frame make it less plain
 pub kept_plain : (w v : World) (s : Step) → (after w.page w.state s).frame ≡ w.state.frame → step w s ≡ Some v → IsPlain w.page w.state.frame → IsPlain v.page v.state.frame
 unfolding step
-kept_plain w v s k h p = elim (cases_Bool (list_all are_in_range (path w.page w.state s).lines)) [
+kept_plain w v s k h p = elim (cases_Bool (list_all (are_in_range w.range) (path w.page w.state s).lines)) [
   | inl t ↦ (let e = same_Some _ _ (rw t at h) in
       subst (λ (u : World). IsPlain u.page u.state.frame) e (subst (λ (f : Frame). IsPlain w.page f) (sym k) p))
   | inr t ↦ absurd (none-some v (rw t at h))

@@ -11,7 +11,7 @@ use Rattle.plot_frame.specs.declared.scaling.Scaling.TheVariants.{Off}
 use Rattle.hpgl_text.specs.Shapes.{ItemShape}
 use Rattle.hpgl_plot.specs.declared.fault.PlotFault.{PlotFault}
 use Rattle.hpgl_plot.specs.declared.fault.PlotFault.TheVariants as fault
-use Rattle.plot_page.specs.declared.stroke.TheConstants.{MOST_STROKES}
+use Rattle.plot_page.specs.declared.stroke.TheConstants.{FARTHEST_END, FARTHEST_PLACE, MOST_STROKES}
 use Rattle.plot_page.specs.declared.page.Page.{Page}
 use Rattle.hpgl_plot.specs.declared.plotter.Plotter.{Plotter}
 use Rattle.hpgl_plot.specs.declared.plotter.Stop.{Stop}
@@ -101,9 +101,11 @@ after page s (Relate b) = record s { is_relative = b }
 after page s (Load c) = record s { carousel = c }
 after page s t = moved s (path page s t).ends
 
--- the page, the state, the strokes that are kept, and whether there were more than may be kept
+-- the page, the range of places in grains, the state, the strokes that are kept, and whether there were more than may be
+-- kept
 pub record World : Type 0 where
   pub page : Page
+  pub range : ℕ
   pub state : State
   pub kept : List Segment
   pub full : Bool
@@ -121,12 +123,12 @@ full_with kept full (s ∷ ss) =
 
 abbrev pub with_strokes : World → State → List Segment → World
 with_strokes w s ss =
-    record { page = w.page; state = s; kept = kept_with w.kept w.full ss; full = full_with w.kept w.full ss }
+    record { page = w.page; range = w.range; state = s; kept = kept_with w.kept w.full ss; full = full_with w.kept w.full ss }
 
 -- what a line over these places leaves: None if one of them is out of range
 abbrev pub travelled : World → Bool → List Spot → Option World
 travelled w draws places =
-    if are_in_range places then Some (with_strokes w w.state (if draws then joined w.state places else [])) else None
+    if are_in_range w.range places then Some (with_strokes w w.state (if draws then joined w.state places else [])) else None
 
 abbrev pub followed : Option World → (World → Option World) → Option World
 followed None f = None
@@ -151,7 +153,7 @@ unfoldable pub step : World → Step → Option World
 step w s =
     let p = path w.page w.state s in
     let new = with_strokes w (after w.page w.state s) (path_strokes w.state p) in
-    if list_all are_in_range p.lines then Some new else None
+    if list_all (are_in_range w.range) p.lines then Some new else None
 
 abbrev pub run : World → List Step → Option World
 run w [] = Some w
@@ -174,15 +176,20 @@ runs w (i ∷ more) = ended (run w (steps_of i)) i.at (λ (v : World). runs v mo
 
 -- a plotter as the definitions see it
 abbrev pub seen : Plotter → World
-seen p = record { page = p.page; state = p.state; kept = p.strokes.items; full = p.is_full }
+seen p = record { page = p.page; range = p.range; state = p.state; kept = p.strokes.items; full = p.is_full }
 
 -- before the first item
 abbrev pub at_start : Page → World
-at_start page = record { page = page; state = start_state empty page; kept = []; full = false }
+at_start page =
+    record { page = page; range = FARTHEST_PLACE; state = start_state empty page; kept = []; full = false }
 
 -- with the pens of a carousel
 abbrev pub at_start_with : Carousel → Page → World
 at_start_with carousel page = record (at_start page) { state = start_state carousel page }
+
+-- where places lie as far as a number of a plot leads
+abbrev pub far_start : Carousel → Page → World
+far_start carousel page = record (at_start_with carousel page) { range = FARTHEST_END }
 
 -- how an item is refused, by what items make of a world
 abbrev pub Refused : {W : Type 0} → (W → List ItemShape → Result W PlotFault) → W → ItemShape → PlotFault → Type 0

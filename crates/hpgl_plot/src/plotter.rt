@@ -19,7 +19,7 @@ use crate::state::State;
 use carousel::Carousel;
 use hpgl_text::{Body, Entries, Instruction, Item, Numbers, Part};
 use plot_frame::{Axis, Pair};
-use plot_page::{Page, Stroke};
+use plot_page::{FARTHEST_END, FARTHEST_PLACE, Page, Stroke};
 use plot_settings::{Moves, Request, request_of};
 use std::alloc::Global;
 
@@ -32,29 +32,30 @@ pub enum Stop {
     OffRange,
 }
 
-/// The page, what is set, the axes of the frame that is set, the strokes that were made, and whether
-/// there were more than a plot may have, which are not kept.
+/// The page, how far places may lie from its corner in x and in y, in grains, what is set, the axes of the frame that is
+/// set, the strokes that were made, and whether there were more than a plot may have, which are not kept.
 #[derive(Drop)]
 pub struct Plotter {
     pub page: Page,
+    pub range: u32,
     pub state: State,
     pub axes: Pair<Axis>,
     pub strokes: Vec<Stroke>,
     pub is_full: bool,
-    pub ghost sound: { IsSound page axes state } by { Prim.hlevel (IsScaling-prop, props) },
+    pub ghost sound: { IsSound page range axes state } by { Prim.hlevel (IsScaling-prop, props) },
 }
 
 impl Plotter {
     ghost use Rattle.std.specs.Prelude.{◌≡◌, IfOk, Some, true};
     ghost use Rattle.hpgl_text.specs.SeenEntries.{part_shape};
-    ghost use Rattle.hpgl_plot.specs.Bounds.{IsPlain};
+    ghost use Rattle.hpgl_plot.specs.Bounds.{IsPlain, IsRangeOfPlaces};
     ghost use Rattle.plot_settings.specs.Requests.{request_meaning, move_steps, IsRequest};
-    ghost use Rattle.hpgl_plot.specs.Machine.{seen, at_start, at_start_with, step, run, runs, Runs, CarriesOut};
+    ghost use Rattle.hpgl_plot.specs.Machine.{seen, at_start, at_start_with, far_start, step, run, runs, Runs, CarriesOut};
     ghost use Rattle.hpgl_plot.specs.Notes.{item_noted, parameters_noted};
     ghost use Rattle.plot_settings.specs.Meanings.{Lower, Relate, moves, lowered_then, part_steps, entry_steps};
     ghost use Rattle.plot_settings.specs.Meanings.{meaning, steps_of};
 
-    /// A plotter on a page, before the first item.
+    /// A plotter of the profile core on a page, before the first item.
     pub fn new(alloc: Global, page: &Page) -> Plotter
         ensures { seen result ≡ at_start page.now }
     {
@@ -65,10 +66,26 @@ impl Plotter {
     pub fn with_pens(alloc: Global, page: &Page, carousel: &Carousel) -> Plotter
         ensures { seen result ≡ at_start_with carousel.now page.now }
     {
+        Plotter::with_range(alloc, page, FARTHEST_PLACE, carousel)
+    }
+
+    /// The same, where places lie as far as a number of a plot leads.
+    pub fn far(alloc: Global, page: &Page, carousel: &Carousel) -> Plotter
+        ensures { seen result ≡ far_start carousel.now page.now }
+    {
+        Plotter::with_range(alloc, page, FARTHEST_END, carousel)
+    }
+
+    // The same, where places lie within so many grains of the page's corner.
+    fn with_range(alloc: Global, page: &Page, range: u32, carousel: &Carousel) -> Plotter
+        requires { IsRangeOfPlaces range }
+        ensures { seen result ≡ record (at_start_with carousel.now page.now) { range = range } }
+    {
         let axes = start_axes(page);
         Plotter {
             page: *page,
-            state: start_of(page, &axes, carousel),
+            range,
+            state: start_of(page, range, &axes, carousel),
             axes,
             strokes: Vec::new(alloc),
             is_full: false,

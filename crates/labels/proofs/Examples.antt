@@ -41,6 +41,6 @@ moved_with_its_line : moved_labels corner (written (at (pos 0) (pos 0)) (at (pos
 moved_with_its_line = refl
 
 -- a place that would lie too far away is cut to the farthest one
-cut_to_the_farthest : moved_labels corner (written (at (pos 1048500) (pos 0)) (at (pos 32) (pos 0)) (at (pos 0) (pos 48)) ∷ [])
-    ≡ written (at (pos 1048576) (negsuc 79)) (at (pos 192) (negsuc 79)) (at (pos 160) (negsuc 31)) ∷ []
+cut_to_the_farthest : moved_labels corner (written (at (pos 134217700) (pos 0)) (at (pos 32) (pos 0)) (at (pos 0) (pos 48)) ∷ [])
+    ≡ written (at (pos 134217712) (negsuc 79)) (at (pos 192) (negsuc 79)) (at (pos 160) (negsuc 31)) ∷ []
 cut_to_the_farthest = refl

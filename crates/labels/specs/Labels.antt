@@ -5,7 +5,7 @@ use Rattle.std.specs.List.{All}
 use Rattle.areas.specs.declared.area.Area.{Area}
 use Rattle.areas.specs.Shapes.{NoneGoesOn}
 use Rattle.exact.specs.declared.spot.Spot.{Spot}
-use Rattle.plot_page.specs.declared.stroke.TheConstants.{FARTHEST_PLACE}
+use Rattle.plot_page.specs.declared.stroke.TheConstants.{FARTHEST_END}
 use Rattle.labels.specs.declared.place.Place.{Place}
 
 -- letters that follow one another on one line: their code points, where the first one begins on the page, where one after
@@ -24,15 +24,15 @@ pub record LabelShape : Type 0 where
 
 -- a number of a place is cut to what the ends of strokes may have
 abbrev pub cut : ℤ → ℤ
-cut z = int_max (neg_ℤ (pos FARTHEST_PLACE)) (int_min (pos FARTHEST_PLACE) z)
+cut z = int_max (neg_ℤ (pos FARTHEST_END)) (int_min (pos FARTHEST_END) z)
 
 abbrev pub place_of : Spot → Place
 place_of q = record { x = cut q.x; y = cut q.y }
 
 -- where strokes may end
 pub record IsNear (p : Place) : Type 0 where
-  pub x_in : nat_abs p.x ≤ FARTHEST_PLACE
-  pub y_in : nat_abs p.y ≤ FARTHEST_PLACE
+  pub x_in : nat_abs p.x ≤ FARTHEST_END
+  pub y_in : nat_abs p.y ≤ FARTHEST_END
 
 pub record IsLine (l : LineShape) : Type 0 where
   pub start_in : IsNear l.start

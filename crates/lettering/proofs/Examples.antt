@@ -19,7 +19,7 @@ use Rattle.lettering.specs.Labels.{styled_label_strokes, styled_label_end, margi
 use Rattle.lettering.specs.declared.style.LineFeed.TheVariants.{Normal, Reverse}
 use Rattle.lettering.specs.declared.style.Path.TheVariants.{Right, Down, Left, Up}
 use Rattle.lettering.specs.declared.style.Style.{Style}
-use Rattle.labels.specs.Labels.{LineShape}
+use Rattle.labels.specs.Labels.{LineShape, cut}
 use Rattle.lettering.specs.Lines.{label_lines}
 
 abbrev dot : ℤ → ℤ → Spot × Spot
@@ -219,6 +219,6 @@ lines_of_labels : Agree (
 lines_of_labels = refl
 
 -- what would be farther away than strokes may end is cut to that
-far : label_lines usual (record { x = pos (2 ^ 20); y = pos 0 }) (printed (codes "A"))
-    ≡ line (codes "A") (pos (2 ^ 20)) (pos 0) (pos (2 ^ 20)) (pos 0) (pos (2 ^ 20)) (pos 1728) ∷ []
+far : label_lines usual (record { x = pos (2 ^ 27); y = pos 0 }) (printed (codes "A"))
+    ≡ (let most = cut (pos (2 ^ 27)) in line (codes "A") most (pos 0) most (pos 0) most (pos 1728) ∷ [])
 far = refl

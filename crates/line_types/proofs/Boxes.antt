@@ -1,5 +1,5 @@
 -- The dashes of a line stay in every box that both its ends are in.
-use Rattle.std.proofs.Common.{◌≡◌, ℕ, ◌+◌, ◌-◌, ◌*◌, ◌/◌, ◌<◌, ◌≤◌, arith, ℤ, pos, ◌+ℤ◌, ◌-ℤ◌, ◌≤ℤ◌, List, [], ◌∷◌, ◌++◌, inl, inr, max, min, nat_eq, sum, length, Option}
+use Rattle.std.proofs.Common.{ℕ, ◌+◌, ◌-◌, ◌/◌, ◌<◌, ◌≤◌, arith, ℤ, ◌+ℤ◌, ◌-ℤ◌, ◌≤ℤ◌, List, [], ◌∷◌, inl, inr, max, min, nat_eq, sum, length, Option}
 use Rattle.std.proofs.lemmas.Int.{ints}
 use Rattle.std.proofs.lemmas.Bool.{lt-ltb, le-ltb, cases_lt, cases_Bool}
 use Rattle.std.proofs.lemmas.Bool.Decides.{nat_tests}
@@ -10,7 +10,7 @@ use Rattle.exact.specs.declared.spot.Spot.{Spot}
 use Rattle.line_types.specs.declared.run.Run.{Run}
 use Rattle.line_types.specs.Lines.{long_of, share_of_line, spot_at}
 use Rattle.line_types.specs.Patterns.{drawn_gaps, start_of}
-use Rattle.line_types.specs.Dashes.{Stretch, dot_at, part, dash, dashes_along, fixed_distance, fixed_dashes, repetitions, adaptive_distance, adaptive_dashes, last_dot}
+use Rattle.line_types.specs.Dashes.{Stretch, dot_at, part, dash, dashes_along, fixed_distance, repetitions, adaptive_distance}
 use Rattle.line_types.specs.LineTypes.{LineShape, Solid, EndDot, Fixed, Adaptive, phase_at, dashes_of}
 use Rattle.line_types.specs.Laws.{IsInBox, IsDashInBox}
 use Rattle.line_types.proofs.Shares.{share_in}

@@ -56,7 +56,7 @@ dashes_by spacing gaps a b start n =
 -- n repetitions lie so that their distances are in range
 abbrev pub IsSpacing : Spacing → ℕ → Type 0
 IsSpacing (Even pattern_length) n = (pattern_length ≤ 2 ^ 40) × (n * pattern_length ≤ 2 ^ 42) × (n ≤ 2 ^ 34)
-IsSpacing Fitted n = n ≤ 2 ^ 23
+IsSpacing Fitted n = n ≤ 2 ^ 30
 
 -- all numbers are in their ranges, and the next gap is a drawn one
 pub record IsRepeated (m : Repeated) : Type 0 where

@@ -2,7 +2,6 @@
 use Rattle.std.specs.Prelude.{ℕ, ◌+◌, ◌*◌, ◌^◌, ℤ, pos, nat_abs, ◌+ℤ◌, ◌-ℤ◌, ◌*ℤ◌}
 use Rattle.exact.specs.Fraction.{quotient, round}
 use Rattle.exact.specs.Roots.{root}
-use Rattle.exact.specs.Spots.{is_same_spot}
 use Rattle.exact.specs.declared.spot.Spot.{Spot}
 
 abbrev pub square : ℤ → ℕ

@@ -22,8 +22,8 @@ pub fn even_distance(length: u64, total: u64, r: u64, passed: u64) -> u64
 // In repetition r of those that fill a line.
 #[inline]
 pub fn fitted_distance(long: u64, count: u64, total: u64, r: u64, passed: u64) -> u64
-    requires long_in { long < 2 ^ 30 }
-    requires count_in { count ≤ 2 ^ 23 }
+    requires long_in { long < 2 ^ 37 }
+    requires count_in { count ≤ 2 ^ 30 }
     requires total_above { 0 < total }
     requires total_in { total < 2 ^ 48 }
     requires passed_in { passed ≤ total }

@@ -5,7 +5,7 @@ ghost use Rattle.line_types.specs.Lines.{long_of, share_of_line, spot_at};
 
 use exact::{Spot, root, rounded};
 
-/// A line between two places in grains, each within 2^20 of 0 in x and in y, with its length.
+/// A line between two places in grains, each within 2^27 of 0 in x and in y, with its length.
 #[derive(Clone, Copy, Debug)]
 pub struct Line {
     pub from: Spot,
@@ -14,7 +14,7 @@ pub struct Line {
     pub ghost from_in: { IsPlace from },
     pub ghost to_in: { IsPlace to },
     pub ghost long_is: { long ≡ long_of from to },
-    pub ghost long_in: { long < 2 ^ 30 },
+    pub ghost long_in: { long < 2 ^ 37 },
 }
 
 impl Line {
@@ -34,7 +34,7 @@ impl Line {
     /// The length of the line in ticks of 1/256 grain, rounded down.
     pub fn long(self) -> u64
         ensures value { result ≡ long_of self.from self.to }
-        ensures most { result < 2 ^ 30 }
+        ensures most { result < 2 ^ 37 }
     {
         self.long
     }
@@ -55,11 +55,11 @@ impl Line {
 // From a towards b, t of `long` parts of the way.
 #[inline]
 fn moved(a: i128, b: i128, t: u64, long: u64) -> i128
-    requires a_in { nat_abs a ≤ 2 ^ 20 }
-    requires b_in { nat_abs b ≤ 2 ^ 20 }
+    requires a_in { nat_abs a ≤ 2 ^ 27 }
+    requires b_in { nat_abs b ≤ 2 ^ 27 }
     requires t_in { t ≤ long }
     requires above { 0 < long }
-    requires long_in { long < 2 ^ 30 }
+    requires long_in { long < 2 ^ 37 }
     ensures { result ≡ a +ℤ share_of_line (b -ℤ a) t long }
 {
     a + rounded((b - a) * i128::from(t), i128::from(long))

@@ -44,12 +44,13 @@ extents = refl
 -- pages around drawings
 pages : Agree (
     -- with a margin of 1 mm, 40 units, the page of the slanted stroke is 220 by 320 units
-    (sides_around 1 (seen square (stroke 640 (pos 0) (pos 0) (pos 1600) (pos 3200))), Some (record { width = 220; height = 320; left = 0; below = 0 }))
+    (sides_around 65536 1 (seen square (stroke 640 (pos 0) (pos 0) (pos 1600) (pos 3200))), Some (record { width = 220; height = 320; left = 0; below = 0 }))
     -- a drawing far from (0,0) has a page as large as it is, and no more
-    ∷ (sides_around 0 (reach (stroke 0 (pos 32000) (pos 16000) (pos 33600) (pos 17600))), Some (record { width = 100; height = 100; left = 0; below = 0 }))
+    ∷ (sides_around 65536 0 (reach (stroke 0 (pos 32000) (pos 16000) (pos 33600) (pos 17600))), Some (record { width = 100; height = 100; left = 0; below = 0 }))
     -- a dot without a margin still has a page of 64 by 64 units
-    ∷ (sides_around 0 (reach (stroke 0 (pos 16) (pos 16) (pos 16) (pos 16))), Some (record { width = 64; height = 64; left = 0; below = 0 }))
-    ∷ (sides_around 1 (reach (stroke 0 (pos 0) (pos 0) (pos 1048000) (pos 0))), None)  -- 65,576 units are too wide
+    ∷ (sides_around 65536 0 (reach (stroke 0 (pos 16) (pos 16) (pos 16) (pos 16))), Some (record { width = 64; height = 64; left = 0; below = 0 }))
+    ∷ (sides_around 65536 1 (reach (stroke 0 (pos 0) (pos 0) (pos 1048000) (pos 0))), None)  -- 65,580 units are too wide
+    ∷ (sides_around 524288 1 (reach (stroke 0 (pos 0) (pos 0) (pos 1048000) (pos 0))), Some (record { width = 65580; height = 80; left = 0; below = 0 }))  -- but not on a roll
     ∷ [])
 pages = refl
 
@@ -63,8 +64,8 @@ corner_of_far = refl
 answers : Agree (
     (is_empty (seen square (stroke_in (window (pos 0) (pos 512) (pos 512) (pos 1024)) 0 (pos 16) (pos 16) (pos 2000) (pos 16))), true)  -- a window that the stroke does not reach
     ∷ (is_empty (seen square (stroke_in empty_window 0 (pos 0) (pos 0) (pos 2) (pos 2))), true)  -- an empty window
-    ∷ (is_movable (corner (negsuc 0) (pos 0)) (stroke 0 (pos 1048560) (pos 0) (pos 0) (pos 0)), true)  -- an end may be moved as far as a place may be
-    ∷ (is_movable (corner (negsuc 0) (pos 0)) (stroke 0 (pos 1048561) (pos 0) (pos 0) (pos 0)), false)  -- but no farther
+    ∷ (is_movable (corner (negsuc 0) (pos 0)) (stroke 0 (pos 134217696) (pos 0) (pos 0) (pos 0)), true)  -- an end may be moved as far as a place may be
+    ∷ (is_movable (corner (negsuc 0) (pos 0)) (stroke 0 (pos 134217697) (pos 0) (pos 0) (pos 0)), false)  -- but no farther
     ∷ (is_beside square (reach (stroke 224 (negsuc 111) (pos 0) (negsuc 111) (pos 160))), false)  -- 7 units left of the page half of a line of 14 units reaches it
     ∷ (is_beside square (reach (stroke 224 (negsuc 127) (pos 0) (negsuc 127) (pos 160))), true)  -- 8 units left of it it does not
     ∷ [])

@@ -3,10 +3,10 @@ use Rattle.std.proofs.Common.{◌≡◌, ◌≤◌, ◌*◌, ◌&&◌, refl, tru
 use Rattle.std.proofs.lemmas.Int.{ints}
 use Rattle.std.proofs.lemmas.Bool.Decides.{nat_tests}
 use Rattle.std.specs.Int.{int_min, int_max}
-use Rattle.plot_page.specs.Segments.{Segment, is_end}
+use Rattle.plot_page.specs.Segments.{Segment, is_far_end}
 use Rattle.plot_page.specs.Strokes.{IsStroke}
 use Rattle.plot_page.specs.declared.page.Page.{Page}
-use Rattle.plot_page.specs.declared.stroke.TheConstants.{FARTHEST_PLACE}
+use Rattle.plot_page.specs.declared.stroke.TheConstants.{FARTHEST_END}
 use Rattle.plot_page.specs.declared.window.Window.{Window}
 use Rattle.page_fit.specs.Moves.{IsOnPage, window_on}
 
@@ -20,7 +20,7 @@ window_by page w x0 y0 x1 y1 e f g h s t =
     let t' = rw (f, h) at t in
     rw (e, f, g, h) (rw (s', t') refl)
 
-pub window_sound : (x0 y0 x1 y1 : ℤ) → pos 0 ≤ℤ x0 → pos 0 ≤ℤ y0 → x1 ≤ℤ pos 1048576 → y1 ≤ℤ pos 1048576 → x0 ≤ℤ x1 → y0 ≤ℤ y1
+pub window_sound : (x0 y0 x1 y1 : ℤ) → pos 0 ≤ℤ x0 → pos 0 ≤ℤ y0 → x1 ≤ℤ pos 8388608 → y1 ≤ℤ pos 8388608 → x0 ≤ℤ x1 → y0 ≤ℤ y1
     → IsOnPage (record { x0 = x0; y0 = y0; x1 = x1; y1 = y1 })
 window_sound x0 y0 x1 y1 a b c d e f = record {
   x0_from = a;
@@ -33,7 +33,7 @@ window_sound x0 y0 x1 y1 a b c d e f = record {
   y1_to = d;
 }
 
-pub made : (s : Segment) (w : Window) (ax ay bx by : ℤ) → IsStroke s → IsOnPage w → nat_abs ax ≤ 1048576 → nat_abs ay ≤ 1048576 → nat_abs bx ≤ 1048576 → nat_abs by ≤ 1048576
+pub made : (s : Segment) (w : Window) (ax ay bx by : ℤ) → IsStroke s → IsOnPage w → nat_abs ax ≤ 134217712 → nat_abs ay ≤ 134217712 → nat_abs bx ≤ 134217712 → nat_abs by ≤ 134217712
     → IsStroke (record { pen = s.pen; colour = s.colour; width = s.width; window = w; ax = ax; ay = ay; bx = bx; by = by })
 made s w ax ay bx by was i p q r t =
     let x0 = i.x0_from in
@@ -62,6 +62,6 @@ made s w ax ay bx by was i p q r t =
     }
 
 -- the four numbers of two places
-pub four : (a b c d : ℤ) → (is_end a b && is_end c d) ≡ true
-    → (nat_abs a ≤ FARTHEST_PLACE) × (nat_abs b ≤ FARTHEST_PLACE) × (nat_abs c ≤ FARTHEST_PLACE) × (nat_abs d ≤ FARTHEST_PLACE)
+pub four : (a b c d : ℤ) → (is_far_end a b && is_far_end c d) ≡ true
+    → (nat_abs a ≤ FARTHEST_END) × (nat_abs b ≤ FARTHEST_END) × (nat_abs c ≤ FARTHEST_END) × (nat_abs d ≤ FARTHEST_END)
 four a b c d h = grind (arith, nat_tests)

@@ -5,12 +5,12 @@ use Rattle.std.specs.Int.{int_div_euclid, int_max, int_min}
 use Rattle.std.proofs.lemmas.Bool.{le-leb}
 use Rattle.std.proofs.lemmas.Int.{int_max_is, int_min_is, ints}
 use Rattle.std.proofs.lemmas.List.Elements.{All-cons}
-use Rattle.plot_page.specs.Pages.{has_page_corner, has_page_size}
+use Rattle.plot_page.specs.Pages.{has_page_corner}
 use Rattle.plot_page.specs.Pens.{has_pen}
 use Rattle.plot_page.specs.Segments.{Segment}
 use Rattle.plot_page.specs.declared.page.Page.{Page}
 use Rattle.plot_page.specs.declared.pens.PenSet.{PenSet}
-use Rattle.page_fit.specs.Around.{Sides, corner_around, length_for, side_at, sides_around, sides_of, units_for}
+use Rattle.page_fit.specs.Around.{Sides, corner_around, is_side, length_for, side_at, sides_around, sides_of, units_for}
 use Rattle.page_fit.specs.Extents.{extent_of, is_empty, joined, joined_with, seen, with_stroke}
 use Rattle.page_fit.specs.Laws.{LieOnThePage, LiesOn, LiesTightlyOn, moved_extent}
 use Rattle.page_fit.specs.Moves.{moved}
@@ -127,12 +127,12 @@ checked_by : (b : Bool) (s t : Sides) → (if b then Some s else None) ≡ Some 
 checked_by true s t is = cc
 checked_by false s t is = absurd (cc)
 
-module _ (margin : ℕ) (around : Page) (e : Extent) (sides : sides_around margin e ≡ Some (sides_of around)) where
+module _ (longest margin : ℕ) (around : Page) (e : Extent) (sides : sides_around longest margin e ≡ Some (sides_of around)) where
   abbrev asked : Sides
   asked = record { width = length_for margin e.least_x e.greatest_x; height = length_for margin e.least_y e.greatest_y; left = 0; below = 0 }
 
   are : asked ≡ sides_of around
-  are = checked_by (has_page_size asked.width asked.height && has_page_corner 0 0) asked (sides_of around) sides
+  are = checked_by ((is_side longest asked.width && is_side longest asked.height) && has_page_corner 0 0) asked (sides_of around) sides
 
   wide : around.width ≡ length_for margin e.least_x e.greatest_x
   wide = sym (ap (λ (s : Sides). s.width) are)
@@ -160,9 +160,9 @@ module _ (margin : ℕ) (around : Page) (e : Extent) (sides : sides_around margi
       → All (λ s. has_pen pens s.pen ≡ true → is_empty (seen on s) ≡ false → LiesOn margin around (moved_extent (corner_around margin e) (seen on s))) strokes
   all_lie_on pens on strokes h = λ k d lt. λ pen some. lies_on (seen on (get_or strokes k d)) (h k d lt pen some)
 
-pub lie_on_the_page : (pens : PenSet) (margin : ℕ) (on around : Page) (strokes : List Segment) (e : Extent) → extent_of pens on strokes ≡ Some e
-    → sides_around margin e ≡ Some (sides_of around) → LieOnThePage pens margin on around strokes e
-lie_on_the_page pens margin on around strokes e is sides = record {
-  seen = all_lie_on margin around e sides pens on strokes (holds_seen pens on strokes None e is).1;
-  tight = lies_tightly_on margin around e sides;
+pub lie_on_the_page : (pens : PenSet) (longest margin : ℕ) (on around : Page) (strokes : List Segment) (e : Extent) → extent_of pens on strokes ≡ Some e
+    → sides_around longest margin e ≡ Some (sides_of around) → LieOnThePage pens margin on around strokes e
+lie_on_the_page pens longest margin on around strokes e is sides = record {
+  seen = all_lie_on longest margin around e sides pens on strokes (holds_seen pens on strokes None e is).1;
+  tight = lies_tightly_on longest margin around e sides;
 }

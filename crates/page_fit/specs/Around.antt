@@ -1,8 +1,8 @@
 -- The page around a drawing.
-use Rattle.std.specs.Prelude.{ℕ, ◌+◌, ◌*◌, ◌/◌, ℤ, pos, ◌+ℤ◌, ◌-ℤ◌, ◌*ℤ◌, int_le, nat_abs, max, Option, Some, None, ◌&&◌}
+use Rattle.std.specs.Prelude.{ℕ, ◌+◌, ◌*◌, ◌/◌, ℤ, pos, ◌+ℤ◌, ◌-ℤ◌, ◌*ℤ◌, int_le, nat_abs, nat_le, max, Bool, Option, Some, None, ◌&&◌}
 use Rattle.std.specs.Prelude.{if◌then◌else◌}
 use Rattle.std.specs.Int.{int_div_euclid}
-use Rattle.plot_page.specs.Pages.{has_page_size, has_page_corner}
+use Rattle.plot_page.specs.Pages.{has_page_corner}
 use Rattle.plot_page.specs.declared.page.Page.{Page}
 use Rattle.plot_page.specs.declared.page.TheConstants.{SHORTEST_SIDE}
 use Rattle.page_fit.specs.declared.extent.Extent.{Extent}
@@ -36,14 +36,19 @@ length_for margin least greatest =
 abbrev pub corner_around : ℕ → Extent → Corner
 corner_around margin e = record { x = side_at margin e.least_x; y = side_at margin e.least_y }
 
--- the page may have these numbers
-abbrev pub checked : Sides → Option Sides
-checked s = if has_page_size s.width s.height && has_page_corner s.left s.below then Some s else None
+-- a side of a page that is at most so long
+abbrev pub is_side : ℕ → ℕ → Bool
+is_side longest units = nat_le SHORTEST_SIDE units && nat_le units longest
 
--- the numbers of the least page that holds a drawing with a margin around it, with its corner at (0, 0); None if no page is so
--- large
-abbrev pub sides_around : ℕ → Extent → Option Sides
-sides_around margin e = checked (record {
+-- a page whose sides are at most so long may have these numbers
+abbrev pub checked : ℕ → Sides → Option Sides
+checked longest s =
+    if (is_side longest s.width && is_side longest s.height) && has_page_corner s.left s.below then Some s else None
+
+-- the numbers of the least page that holds a drawing with a margin around it, with its corner at (0, 0); None if a side is longer
+-- than the longest one
+abbrev pub sides_around : ℕ → ℕ → Extent → Option Sides
+sides_around longest margin e = checked longest (record {
   width = length_for margin e.least_x e.greatest_x;
   height = length_for margin e.least_y e.greatest_y;
   left = 0;

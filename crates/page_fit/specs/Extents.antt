@@ -70,7 +70,7 @@ extent_of pens page strokes = fold (with_stroke pens page) None strokes
 
 -- no place is farther from the corner than a stroke reaches
 pub record IsNear (e : Extent) : Type 0 where
-  pub least_x : nat_abs e.least_x ≤ 2 ^ 21
-  pub least_y : nat_abs e.least_y ≤ 2 ^ 21
-  pub greatest_x : nat_abs e.greatest_x ≤ 2 ^ 21
-  pub greatest_y : nat_abs e.greatest_y ≤ 2 ^ 21
+  pub least_x : nat_abs e.least_x ≤ 2 ^ 28
+  pub least_y : nat_abs e.least_y ≤ 2 ^ 28
+  pub greatest_x : nat_abs e.greatest_x ≤ 2 ^ 28
+  pub greatest_y : nat_abs e.greatest_y ≤ 2 ^ 28

@@ -43,6 +43,6 @@ pub record LieOnThePage (pens : PenSet) (margin : ℕ) (on around : Page) (strok
 
 abbrev pub SeenStrokesLieOnThePage : Type 0
 SeenStrokesLieOnThePage =
-    (pens : PenSet) (margin : ℕ) (on around : Page) (strokes : List Segment) (e : Extent) →
-    extent_of pens on strokes ≡ Some e → sides_around margin e ≡ Some (sides_of around) →
+    (pens : PenSet) (longest margin : ℕ) (on around : Page) (strokes : List Segment) (e : Extent) →
+    extent_of pens on strokes ≡ Some e → sides_around longest margin e ≡ Some (sides_of around) →
     LieOnThePage pens margin on around strokes e

@@ -3,10 +3,10 @@ use Rattle.std.specs.Prelude.{◌*◌, ◌^◌, ◌≤◌, ◌||◌, ◌&&◌, n
 use Rattle.std.specs.Prelude.{if◌then◌else◌}
 use Rattle.std.specs.Int.{int_max, int_min}
 use Rattle.std.specs.List.{list_all}
-use Rattle.plot_page.specs.Segments.{Segment, is_end}
+use Rattle.plot_page.specs.Segments.{Segment, is_far_end}
 use Rattle.plot_page.specs.Pens.{has_pen}
 use Rattle.plot_page.specs.declared.page.Page.{Page}
-use Rattle.plot_page.specs.declared.stroke.TheConstants.{FARTHEST_PLACE}
+use Rattle.plot_page.specs.declared.stroke.TheConstants.{FARTHEST_EDGE}
 use Rattle.plot_page.specs.declared.pens.PenSet.{PenSet}
 use Rattle.plot_page.specs.declared.window.Window.{Window}
 use Rattle.page_fit.specs.declared.around.Corner.{Corner}
@@ -67,7 +67,7 @@ moved_strokes pens page c around strokes = map (moved_if_selected pens page c ar
 
 -- both ends of a stroke are places when they are moved
 abbrev pub is_movable : Corner → Segment → Bool
-is_movable c s = is_end (moved c.x s.ax) (moved c.y s.ay) && is_end (moved c.x s.bx) (moved c.y s.by)
+is_movable c s = is_far_end (moved c.x s.ax) (moved c.y s.ay) && is_far_end (moved c.x s.bx) (moved c.y s.by)
 
 -- those of all strokes of the selected pens are
 abbrev pub are_movable : PenSet → Corner → List Segment → Bool
@@ -78,13 +78,13 @@ pub record IsCornerNear (c : Corner) : Type 0 where
   pub x_in : nat_abs c.x ≤ 2 ^ 40
   pub y_in : nat_abs c.y ≤ 2 ^ 40
 
--- no edge of a window lies off the greatest page
+-- no edge of a window lies off the longest page
 pub record IsOnPage (w : Window) : Type 0 where
   pub x0_from : pos 0 ≤ℤ w.x0
   pub y0_from : pos 0 ≤ℤ w.y0
   pub x1_from : pos 0 ≤ℤ w.x1
   pub y1_from : pos 0 ≤ℤ w.y1
-  pub x0_to : w.x0 ≤ℤ pos FARTHEST_PLACE
-  pub y0_to : w.y0 ≤ℤ pos FARTHEST_PLACE
-  pub x1_to : w.x1 ≤ℤ pos FARTHEST_PLACE
-  pub y1_to : w.y1 ≤ℤ pos FARTHEST_PLACE
+  pub x0_to : w.x0 ≤ℤ pos FARTHEST_EDGE
+  pub y0_to : w.y0 ≤ℤ pos FARTHEST_EDGE
+  pub x1_to : w.x1 ≤ℤ pos FARTHEST_EDGE
+  pub y1_to : w.y1 ≤ℤ pos FARTHEST_EDGE

@@ -1,12 +1,12 @@
 //! The page around a drawing.
-ghost use Rattle.std.specs.Prelude.{◌≡◌, ◌+◌, ◌*◌, ◌≤◌, ◌^◌, ◌+ℤ◌, ◌-ℤ◌, ◌*ℤ◌, pos, nat_abs, option_map};
-ghost use Rattle.plot_page.specs.Pages.{has_page_size, is_page_side};
-ghost use Rattle.page_fit.specs.Around.{checked, corner_around, length_for, side_at, sides_around, sides_of, units_for};
+ghost use Rattle.std.specs.Prelude.{◌≡◌, ◌+◌, ◌*◌, ◌≤◌, ◌^◌, ◌+ℤ◌, ◌-ℤ◌, ◌*ℤ◌, ◌&&◌, pos, nat_abs, option_map};
+ghost use Rattle.plot_page.specs.Pages.{is_roll};
+ghost use Rattle.page_fit.specs.Around.{checked, corner_around, is_side, length_for, side_at, sides_around, sides_of, units_for};
 ghost use Rattle.page_fit.specs.Extents.{IsNear};
 ghost use Rattle.page_fit.specs.Moves.{IsCornerNear};
 
 use crate::extent::Extent;
-use plot_page::{LONGEST_SIDE, Page, SHORTEST_SIDE};
+use plot_page::{Page, SHORTEST_SIDE};
 
 // How many grains a plotter unit has.
 const GRAINS: i64 = 16;
@@ -34,43 +34,47 @@ pub fn corner_around(margin: u32, extent: Extent) -> Corner
 }
 
 /// The least page that holds a drawing of this extent, with a margin in millimetres around it; its corner is (0, 0).
-/// `None` if no page is so large.
-pub fn page_around(margin: u32, extent: Extent) -> Option<Page>
-    requires { IsNear extent }
-    ensures { option_map sides_of result ≡ sides_around margin extent }
+/// `None` if a side would be longer than the longest one, in plotter units, which is at most 524,288.
+pub fn page_around(longest: u32, margin: u32, extent: Extent) -> Option<Page>
+    requires longest { longest ≤ 524288 }
+    requires near { IsNear extent }
+    ensures { option_map sides_of result ≡ sides_around longest margin extent }
 {
     page_of(
+        longest,
         length_for(margin, extent.least_x, extent.greatest_x),
         length_for(margin, extent.least_y, extent.greatest_y),
     )
 }
 
-// The page of this width and this height, if there is one.
-fn page_of(width: u64, height: u64) -> Option<Page>
-    ensures { option_map sides_of result ≡ checked (record { width = width; height = height; left = 0; below = 0 }) }
+// The page of this width and this height, if its sides may be so long.
+fn page_of(longest: u32, width: u64, height: u64) -> Option<Page>
+    requires { longest ≤ 524288 }
+    ensures { option_map sides_of result
+        ≡ checked longest (record { width = width; height = height; left = 0; below = 0 }) }
 {
-    if !has_page_size(width, height) {
+    if !are_sides(longest, width, height) {
         return None;
     }
-    Page::new(width as u32, height as u32, 0, 0).ok()
+    Page::roll(width as u32, height as u32, 0, 0)
 }
 
-// Whether a page may have this size.
-fn has_page_size(width: u64, height: u64) -> bool
-    ensures { result ≡ has_page_size width height }
+/// Whether a page whose sides are at most so long, in plotter units, may have this width and this height.
+pub fn are_sides(longest: u32, width: u64, height: u64) -> bool
+    ensures { result ≡ (is_side longest width && is_side longest height) }
 {
-    is_page_side(width) && is_page_side(height)
+    is_side(longest, width) && is_side(longest, height)
 }
 
-fn is_page_side(units: u64) -> bool
-    ensures { result ≡ is_page_side units }
+fn is_side(longest: u32, units: u64) -> bool
+    ensures { result ≡ is_side longest units }
 {
-    u64::from(SHORTEST_SIDE) <= units && units <= u64::from(LONGEST_SIDE)
+    u64::from(SHORTEST_SIDE) <= units && units <= u64::from(longest)
 }
 
 // Where a side of the page lies, in plotter units.
 fn side_at(margin: u32, least: i64) -> i64
-    requires { nat_abs least ≤ 2 ^ 21 }
+    requires { nat_abs least ≤ 2 ^ 28 }
     ensures value { result ≡ side_at margin least }
     ensures near { nat_abs result ≤ 2 ^ 40 }
 {
@@ -79,8 +83,8 @@ fn side_at(margin: u32, least: i64) -> i64
 
 // How long a side of the page is, in plotter units.
 fn length_for(margin: u32, least: i64, greatest: i64) -> u64
-    requires least { nat_abs least ≤ 2 ^ 21 }
-    requires greatest { nat_abs greatest ≤ 2 ^ 21 }
+    requires least { nat_abs least ≤ 2 ^ 28 }
+    requires greatest { nat_abs greatest ≤ 2 ^ 28 }
     ensures { result ≡ length_for margin least greatest }
 {
     u64::from(SHORTEST_SIDE).max(units_for(reach_from(side_at(margin, least), margin, greatest)))
@@ -89,7 +93,7 @@ fn length_for(margin: u32, least: i64, greatest: i64) -> u64
 // How far a drawing and its margin reach from the page's side, in grains.
 fn reach_from(side: i64, margin: u32, greatest: i64) -> i64
     requires side { nat_abs side ≤ 2 ^ 40 }
-    requires greatest { nat_abs greatest ≤ 2 ^ 21 }
+    requires greatest { nat_abs greatest ≤ 2 ^ 28 }
     ensures value { result ≡ greatest +ℤ pos (640 * margin) -ℤ pos 16 *ℤ side }
     ensures near { nat_abs result ≤ 2 ^ 50 }
 {

@@ -34,42 +34,42 @@ fn across(one: &Stroke, other: &Stroke) -> Stroke
 
 // The least of the numbers of four ends.
 fn least(a: i32, b: i32, c: i32, d: i32) -> i32
-    requires a { nat_abs a ≤ 2 ^ 20 }
-    requires b { nat_abs b ≤ 2 ^ 20 }
-    requires c { nat_abs c ≤ 2 ^ 20 }
-    requires d { nat_abs d ≤ 2 ^ 20 }
+    requires a { nat_abs a ≤ 134217712 }
+    requires b { nat_abs b ≤ 134217712 }
+    requires c { nat_abs c ≤ 134217712 }
+    requires d { nat_abs d ≤ 134217712 }
     ensures value { result ≡ int_min (int_min a b) (int_min c d) }
-    ensures near { nat_abs result ≤ 2 ^ 20 }
+    ensures near { nat_abs result ≤ 134217712 }
 {
     lesser(lesser(a, b), lesser(c, d))
 }
 
 fn lesser(a: i32, b: i32) -> i32
-    requires a { nat_abs a ≤ 2 ^ 20 }
-    requires b { nat_abs b ≤ 2 ^ 20 }
+    requires a { nat_abs a ≤ 134217712 }
+    requires b { nat_abs b ≤ 134217712 }
     ensures value { result ≡ int_min a b }
-    ensures near { nat_abs result ≤ 2 ^ 20 }
+    ensures near { nat_abs result ≤ 134217712 }
 {
     a.min(b)
 }
 
 // The greatest of them.
 fn greatest(a: i32, b: i32, c: i32, d: i32) -> i32
-    requires a { nat_abs a ≤ 2 ^ 20 }
-    requires b { nat_abs b ≤ 2 ^ 20 }
-    requires c { nat_abs c ≤ 2 ^ 20 }
-    requires d { nat_abs d ≤ 2 ^ 20 }
+    requires a { nat_abs a ≤ 134217712 }
+    requires b { nat_abs b ≤ 134217712 }
+    requires c { nat_abs c ≤ 134217712 }
+    requires d { nat_abs d ≤ 134217712 }
     ensures value { result ≡ int_max (int_max a b) (int_max c d) }
-    ensures near { nat_abs result ≤ 2 ^ 20 }
+    ensures near { nat_abs result ≤ 134217712 }
 {
     greater(greater(a, b), greater(c, d))
 }
 
 fn greater(a: i32, b: i32) -> i32
-    requires a { nat_abs a ≤ 2 ^ 20 }
-    requires b { nat_abs b ≤ 2 ^ 20 }
+    requires a { nat_abs a ≤ 134217712 }
+    requires b { nat_abs b ≤ 134217712 }
     ensures value { result ≡ int_max a b }
-    ensures near { nat_abs result ≤ 2 ^ 20 }
+    ensures near { nat_abs result ≤ 134217712 }
 {
     a.max(b)
 }

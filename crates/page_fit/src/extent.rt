@@ -37,10 +37,10 @@ impl Extent {
     // What of it lies in a window.
     fn cut_to(self, window: Window) -> Extent
         requires near { IsNear self }
-        requires x0 { nat_abs window.x0 ≤ 2 ^ 20 }
-        requires y0 { nat_abs window.y0 ≤ 2 ^ 20 }
-        requires x1 { nat_abs window.x1 ≤ 2 ^ 20 }
-        requires y1 { nat_abs window.y1 ≤ 2 ^ 20 }
+        requires x0 { nat_abs window.x0 ≤ 8388608 }
+        requires y0 { nat_abs window.y0 ≤ 8388608 }
+        requires x1 { nat_abs window.x1 ≤ 8388608 }
+        requires y1 { nat_abs window.y1 ≤ 8388608 }
         ensures value { result ≡ cut_to window self }
         ensures near { IsNear result }
     {
@@ -86,10 +86,10 @@ fn half_width(stroke: &Stroke) -> u32
 // How far down two ends reach.
 fn least(a: i32, b: i32, around: u32) -> i64
     requires around { around ≤ 6400 }
-    requires a { nat_abs a ≤ 2 ^ 20 }
-    requires b { nat_abs b ≤ 2 ^ 20 }
+    requires a { nat_abs a ≤ 134217712 }
+    requires b { nat_abs b ≤ 134217712 }
     ensures value { result ≡ int_min a b -ℤ pos around }
-    ensures near { nat_abs result ≤ 2 ^ 21 }
+    ensures near { nat_abs result ≤ 2 ^ 28 }
 {
     i64::from(a.min(b)) - i64::from(around)
 }
@@ -97,42 +97,42 @@ fn least(a: i32, b: i32, around: u32) -> i64
 // How far up two ends reach.
 fn greatest(a: i32, b: i32, around: u32) -> i64
     requires around { around ≤ 6400 }
-    requires a { nat_abs a ≤ 2 ^ 20 }
-    requires b { nat_abs b ≤ 2 ^ 20 }
+    requires a { nat_abs a ≤ 134217712 }
+    requires b { nat_abs b ≤ 134217712 }
     ensures value { result ≡ int_max a b +ℤ pos around }
-    ensures near { nat_abs result ≤ 2 ^ 21 }
+    ensures near { nat_abs result ≤ 2 ^ 28 }
 {
     i64::from(a.max(b)) + i64::from(around)
 }
 
 fn lesser(a: i64, b: i64) -> i64
     ensures value { result ≡ int_min a b }
-    ensures near { nat_abs a ≤ 2 ^ 21 → nat_abs b ≤ 2 ^ 21 → nat_abs result ≤ 2 ^ 21 }
+    ensures near { nat_abs a ≤ 2 ^ 28 → nat_abs b ≤ 2 ^ 28 → nat_abs result ≤ 2 ^ 28 }
 {
     a.min(b)
 }
 
 fn greater(a: i64, b: i64) -> i64
     ensures value { result ≡ int_max a b }
-    ensures near { nat_abs a ≤ 2 ^ 21 → nat_abs b ≤ 2 ^ 21 → nat_abs result ≤ 2 ^ 21 }
+    ensures near { nat_abs a ≤ 2 ^ 28 → nat_abs b ≤ 2 ^ 28 → nat_abs result ≤ 2 ^ 28 }
 {
     a.max(b)
 }
 
 // A place, or an edge of a window that lies farther up.
 fn not_below(place: i64, edge: i32) -> i64
-    requires edge { nat_abs edge ≤ 2 ^ 20 }
+    requires edge { nat_abs edge ≤ 8388608 }
     ensures value { result ≡ int_max place edge }
-    ensures near { nat_abs place ≤ 2 ^ 21 → nat_abs result ≤ 2 ^ 21 }
+    ensures near { nat_abs place ≤ 2 ^ 28 → nat_abs result ≤ 2 ^ 28 }
 {
     place.max(i64::from(edge))
 }
 
 // A place, or an edge of a window that lies farther down.
 fn not_above(place: i64, edge: i32) -> i64
-    requires edge { nat_abs edge ≤ 2 ^ 20 }
+    requires edge { nat_abs edge ≤ 8388608 }
     ensures value { result ≡ int_min place edge }
-    ensures near { nat_abs place ≤ 2 ^ 21 → nat_abs result ≤ 2 ^ 21 }
+    ensures near { nat_abs place ≤ 2 ^ 28 → nat_abs result ≤ 2 ^ 28 }
 {
     place.min(i64::from(edge))
 }

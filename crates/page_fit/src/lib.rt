@@ -8,7 +8,7 @@ mod extent;
 pub mod laws;
 mod moves;
 
-pub use around::{Corner, corner_around, page_around};
+pub use around::{Corner, are_sides, corner_around, page_around};
 pub use census::{Census, census_of};
 pub use extent::{Extent, extent_of};
 pub use moves::{are_movable, move_strokes};

@@ -2,14 +2,14 @@
 ghost use Rattle.std.specs.Prelude.{◌≡◌, ◌*◌, ◌≤◌, ◌^◌, ◌&&◌, ◌≤ℤ◌, ◌||◌, not, pos, true, nat_abs, nat_le};
 ghost use Rattle.std.specs.Int.{int_max, int_min};
 ghost use Rattle.plot_page.specs.Pens.{has_pen};
-ghost use Rattle.plot_page.specs.Segments.{is_end};
-ghost use Rattle.plot_page.specs.declared.stroke.TheConstants.{FARTHEST_PLACE};
+ghost use Rattle.plot_page.specs.Segments.{is_far_end};
+ghost use Rattle.plot_page.specs.declared.stroke.TheConstants.{FARTHEST_END};
 ghost use Rattle.page_fit.specs.Moves.{IsCornerNear, IsOnPage, are_movable, is_movable, moved, moved_if_selected, moved_strokes, moved_stroke};
 ghost use Rattle.page_fit.specs.Moves.{moved_window, page_window, shifted, window_on};
 
 use crate::around::Corner;
 use crate::extent::holds_page;
-use plot_page::{FARTHEST_PLACE, Page, PenSet, Stroke, Window};
+use plot_page::{FARTHEST_END, Page, PenSet, Stroke, Window};
 
 // How many grains a plotter unit has.
 const GRAINS: i64 = 16;
@@ -46,15 +46,15 @@ fn is_movable(stroke: &Stroke, corner: Corner) -> bool
 // Whether a place is a place when it is moved.
 fn is_end(corner: Corner, x: i32, y: i32) -> bool
     requires { IsCornerNear corner }
-    ensures { result ≡ is_end (moved corner.x x) (moved corner.y y) }
+    ensures { result ≡ is_far_end (moved corner.x x) (moved corner.y y) }
 {
     is_in_range(moved(corner.x, x)) && is_in_range(moved(corner.y, y))
 }
 
 fn is_in_range(number: i64) -> bool
-    ensures { result ≡ nat_le (nat_abs number) FARTHEST_PLACE }
+    ensures { result ≡ nat_le (nat_abs number) FARTHEST_END }
 {
-    number.unsigned_abs() <= u64::from(FARTHEST_PLACE)
+    number.unsigned_abs() <= u64::from(FARTHEST_END)
 }
 
 // A number of a place, from a side that lies so many plotter units farther.
@@ -124,9 +124,9 @@ fn moved_stroke(stroke: &Stroke, page: &Page, corner: Corner, around: &Page) -> 
 // A number of a place, which stays one.
 fn moved_place(side: i64, place: i32) -> i32
     requires side { nat_abs side ≤ 2 ^ 40 }
-    requires near { nat_abs (moved side place) ≤ FARTHEST_PLACE }
+    requires near { nat_abs (moved side place) ≤ FARTHEST_END }
     ensures value { result ≡ moved side place }
-    ensures near { nat_abs result ≤ FARTHEST_PLACE }
+    ensures near { nat_abs result ≤ FARTHEST_END }
 {
     moved(side, place) as i32
 }
@@ -178,8 +178,8 @@ fn low_edge(side: i64, place: i32) -> i64
 
 fn high_edge(side: i64, place: i32, width: u32) -> i64
     requires side { nat_abs side ≤ 2 ^ 40 }
-    requires width { width ≤ 65536 }
-    ensures to { result ≤ℤ pos 1048576 }
+    requires width { width ≤ 524288 }
+    ensures to { result ≤ℤ pos 8388608 }
     ensures value { result ≡ int_min (moved side place) (pos (16 * width)) }
 {
     moved(side, place).min(GRAINS * i64::from(width))

@@ -15,25 +15,27 @@ use Rattle.plot_page.specs.declared.pens.PenSet.{PenSet}
 use Rattle.stroke_runs.specs.Sheets.{sheet_areas}
 use Rattle.pdf.specs.Contents.{content_text}
 use Rattle.pdf.specs.Documents.{AreStreams, catalog_text, end_text, font_count, font_objects, header_text, info_text, layer_objects, list_text, objects, page_areas, page_object, page_objects, pages_objects, pages_text, pdf_bytes, pens_drawn, rows_shown, sheet_labels, sheets, stream_object}
+use Rattle.pdf.specs.Units.{unit_of}
+use Rattle.pdf.specs.declared.units.PageUnit.{PageUnit}
 use Rattle.pdf.specs.Writings.{Adds, AddsPage, AddsStream, PutsStream, WritesPdf, object_end, object_start, stream_start}
 use Rattle.pdf.proofs.AddedObjects.{added_as, added_more, document_added, object_added}
 use Rattle.pdf.proofs.FontLists.{fonts_size}
 use Rattle.pdf.proofs.Lists.{layer_objects_size}
 
 -- one page more
-pub pages_join : (before : ℕ) (xs : List (List ℕ)) (x : List ℕ) → pages_objects before (xs ++ x ∷ []) ≡ pages_objects before xs ++ page_objects (before + 3 * length xs) x
-pages_join before [] x =
-    append-nil (page_objects before x) ∙ ap (λ (k : ℕ). page_objects k x) (let e : before ≡ before + 3 * 0 = omega arith in e)
-pages_join before (y ∷ ys) x =
-    ap (λ (z : List (List ℕ)). page_objects before y ++ z) (pages_join (before + 3) ys x)
-    ∙ sym (append_assoc (page_objects before y) (pages_objects (before + 3) ys) (page_objects (before + 3 + 3 * length ys) x))
-    ∙ ap (λ (k : ℕ). (page_objects before y ++ pages_objects (before + 3) ys) ++ page_objects k x)
+pub pages_join : (unit : PageUnit) (before : ℕ) (xs : List (List ℕ)) (x : List ℕ) → pages_objects unit before (xs ++ x ∷ []) ≡ pages_objects unit before xs ++ page_objects unit (before + 3 * length xs) x
+pages_join unit before [] x =
+    append-nil (page_objects unit before x) ∙ ap (λ (k : ℕ). page_objects unit k x) (let e : before ≡ before + 3 * 0 = omega arith in e)
+pages_join unit before (y ∷ ys) x =
+    ap (λ (z : List (List ℕ)). page_objects unit before y ++ z) (pages_join unit (before + 3) ys x)
+    ∙ sym (append_assoc (page_objects unit before y) (pages_objects unit (before + 3) ys) (page_objects unit (before + 3 + 3 * length ys) x))
+    ∙ ap (λ (k : ℕ). (page_objects unit before y ++ pages_objects unit (before + 3) ys) ++ page_objects unit k x)
     (let e : before + 3 + 3 * length ys ≡ before + 3 * length (y ∷ ys) = omega arith in e)
 
-pub pages_size : (before : ℕ) (xs : List (List ℕ)) → length (pages_objects before xs) ≡ 3 * length xs
-pages_size before [] = refl
-pages_size before (x ∷ xs) =
-    length-append (page_objects before x) (pages_objects (before + 3) xs) ∙ ap (λ (k : ℕ). 3 + k) (pages_size (before + 3) xs)
+pub pages_size : (unit : PageUnit) (before : ℕ) (xs : List (List ℕ)) → length (pages_objects unit before xs) ≡ 3 * length xs
+pages_size unit before [] = refl
+pages_size unit before (x ∷ xs) =
+    length-append (page_objects unit before x) (pages_objects unit (before + 3) xs) ∙ ap (λ (k : ℕ). 3 + k) (pages_size unit (before + 3) xs)
     ∙ (let e : 3 + 3 * length xs ≡ 3 * length (x ∷ xs) = omega arith in e)
 
 pub streams_size : (page : Page) (pens : PenSet) (pages : List (List Segment)) (areas : List (List Area)) (labels : List (List LabelShape)) (streams : List (List ℕ)) → AreStreams page pens pages areas labels streams
@@ -72,10 +74,10 @@ stream_added begin noted length_is start stream end last = record {
 }
 
 -- the objects of a page
-pub page_added : {K : Type 0} {state : K → SinkState} {a b c d : Text K} {o p q r : List ℕ} {before size : ℕ} {text : List ℕ}
-    → Adds state a b o p before (page_object (before + 2) ∷ []) → AddsStream state b c p q (before + 1) text size
-    → Adds state c d q r (before + 2) (decimal size ∷ []) → AddsPage state a d o r before text
-page_added {before = before} {size = size} first second third =
+pub page_added : (unit : PageUnit) {K : Type 0} {state : K → SinkState} {a b c d : Text K} {o p q r : List ℕ} {before size : ℕ} {text : List ℕ}
+    → Adds state a b o p before (page_object unit (before + 2) ∷ []) → AddsStream state b c p q (before + 1) text size
+    → Adds state c d q r (before + 2) (decimal size ∷ []) → AddsPage state a d o r unit before text
+page_added unit {before = before} {size = size} first second third =
     let stream = second.stream in
     let sum : before + 1 + 2 ≡ before + 3 = omega arith in
     let two = added_more first second.adds refl in
@@ -83,8 +85,8 @@ page_added {before = before} {size = size} first second third =
       stream = stream;
       reads = second.reads;
       adds = added_as (added_more two third refl)
-          (ap (λ (k : ℕ). page_object (before + 2) ∷ stream_object k stream ∷ decimal size ∷ []) sum
-          ∙ ap (λ (k : ℕ). page_object (before + 2) ∷ stream_object (before + 3) stream ∷ decimal k ∷ []) second.counts);
+          (ap (λ (k : ℕ). page_object unit (before + 2) ∷ stream_object k stream ∷ decimal size ∷ []) sum
+          ∙ ap (λ (k : ℕ). page_object unit (before + 2) ∷ stream_object (before + 3) stream ∷ decimal k ∷ []) second.counts);
     }
 
 -- the pages of the sheets that are left
@@ -106,12 +108,12 @@ next_follows page pens all areas labels strokes sheet edged left shown after fro
     subst R (sym (append_assoc streams (stream ∷ []) rest)) (subst P next so_far (stream ∷ rest) (subst S has (subst Q is read), subst T moved h))
 
 -- one page more
-pub page_more : {K : Type 0} {state : K → SinkState} {a b c : Text K} {o p q : List ℕ} {before next : ℕ} (streams : List (List ℕ)) (stream : List ℕ)
-    → Adds state a b o p before (pages_objects before streams) → Adds state b c p q next (page_objects next stream) → next ≡ before + 3 * length streams
-    → Adds state a c o q before (pages_objects before (streams ++ stream ∷ []))
-page_more {before = before} {next = next} streams stream first second is =
-    let size : next ≡ before + length (pages_objects before streams) = is ∙ ap (λ (k : ℕ). before + k) (sym (pages_size before streams)) in
-    added_as (added_more first second size) (ap (λ (k : ℕ). pages_objects before streams ++ page_objects k stream) is ∙ sym (pages_join before streams stream))
+pub page_more : (unit : PageUnit) {K : Type 0} {state : K → SinkState} {a b c : Text K} {o p q : List ℕ} {before next : ℕ} (streams : List (List ℕ)) (stream : List ℕ)
+    → Adds state a b o p before (pages_objects unit before streams) → Adds state b c p q next (page_objects unit next stream) → next ≡ before + 3 * length streams
+    → Adds state a c o q before (pages_objects unit before (streams ++ stream ∷ []))
+page_more unit {before = before} {next = next} streams stream first second is =
+    let size : next ≡ before + length (pages_objects unit before streams) = is ∙ ap (λ (k : ℕ). before + k) (sym (pages_size unit before streams)) in
+    added_as (added_more first second size) (ap (λ (k : ℕ). pages_objects unit before streams ++ page_objects unit k stream) is ∙ sym (pages_join unit before streams stream))
 
 -- all pages were written
 pub all_follow : (page : Page) (pens : PenSet) (all : List (List Segment)) (areas : List (List Area)) (labels : List (List LabelShape)) (strokes : List Segment) (edged : List Area) (shown : List LabelShape) (from : ℕ) (ends : List ℕ) (streams : List (List ℕ))
@@ -128,12 +130,12 @@ front version title page pens rows ends = catalog_text ∷ info_text version tit
 -- the objects of a document
 pub objects_added : {K : Type 0} {state : K → SinkState} {a b c d e : Text K} {o p q r s : List ℕ} {layers fonts : ℕ} (version title : List ℕ) (page : Page) (pens rows ends : List ℕ) (streams : List (List ℕ))
     → Adds state a b o p 0 (front version title page pens rows ends) → Adds state b c p q 4 (layer_objects pens) → Adds state c d q r layers (font_objects layers rows)
-    → Adds state d e r s fonts (pages_objects fonts streams) → layers ≡ 4 + length pens → fonts ≡ 4 + length pens + font_count rows
+    → Adds state d e r s fonts (pages_objects (unit_of page) fonts streams) → layers ≡ 4 + length pens → fonts ≡ 4 + length pens + font_count rows
     → Adds state a e o s 0 (objects version title page pens rows ends streams)
 objects_added {state = state} {c = c} {d = d} {e = e} {q = q} {r = r} {s = s} version title page pens rows ends streams first second third fourth is are =
     let four = front version title page pens rows ends in
     let third' = subst (λ (k : ℕ). Adds state c d q r k (font_objects k rows)) is third in
-    let fourth' = subst (λ (k : ℕ). Adds state d e r s k (pages_objects k streams)) are fourth in
+    let fourth' = subst (λ (k : ℕ). Adds state d e r s k (pages_objects (unit_of page) k streams)) are fourth in
     let all_fonts = font_objects (4 + length pens) rows in
     let after : 4 + length pens ≡ 0 + length (four ++ layer_objects pens) = omega (arith, length-append four (layer_objects pens), layer_objects_size pens) in
     let later : 4 + length pens + font_count rows ≡ 0 + length (four ++ layer_objects pens ++ all_fonts) =
@@ -149,12 +151,12 @@ objects_size version title page pens rows ends pages areas labels streams set ar
     let fonts = font_objects (4 + length pens) rows in
     omega (
       arith,
-      length-append (four ++ layer_objects pens ++ fonts) (pages_objects (4 + length pens + font_count rows) streams),
+      length-append (four ++ layer_objects pens ++ fonts) (pages_objects (unit_of page) (4 + length pens + font_count rows) streams),
       length-append (four ++ layer_objects pens) fonts,
       length-append four (layer_objects pens),
       layer_objects_size pens,
       fonts_size (4 + length pens) rows,
-      pages_size (4 + length pens + font_count rows) streams,
+      pages_size (unit_of page) (4 + length pens + font_count rows) streams,
       streams_size page set pages areas labels streams are,
       same,
     )
@@ -162,7 +164,7 @@ objects_size version title page pens rows ends pages areas labels streams set ar
 -- the whole document was put into a new text
 pub pdf_put : {K : Type 0} {state : K → SinkState} {a b c d e f g : Text K} {o p q r s : List ℕ} (layers fonts all : ℕ) (version title : List ℕ) (page : Page) (set : PenSet) (strokes : List Segment) (areas : List Area) (ends : List ℕ) (labels : List LabelShape) (pens rows : List ℕ) (streams : List (List ℕ))
     → count_of a ≡ 0 → Puts state a b header_text → Adds state b c o p 0 (front version title page pens rows ends) → Adds state c d p q 4 (layer_objects pens)
-    → Adds state d e q r layers (font_objects layers rows) → Adds state e f r s fonts (pages_objects fonts streams) → Puts state f g (end_text (take all s) (count_of f))
+    → Adds state d e q r layers (font_objects layers rows) → Adds state e f r s fonts (pages_objects (unit_of page) fonts streams) → Puts state f g (end_text (take all s) (count_of f))
     → AreStreams page set (sheets strokes 0 ends) (page_areas areas 0 ends) (sheet_labels labels 0 ends) streams
     → layers ≡ 4 + length pens → fonts ≡ 4 + length pens + font_count rows → all ≡ fonts + 3 * length ends
     → pens ≡ pens_drawn set strokes → rows ≡ rows_shown set strokes labels

@@ -22,6 +22,7 @@ use Rattle.pdf.specs.ContentReader.{read_content}
 use Rattle.pdf.specs.Contents.{chain_end, clip_operators, content_operators, content_text, end_operators, fill_operators, labels_operators, line_operators, lines_operators, pieces_operators, rest_operators, run_operators, runs_operators, start_operators, stroke_operators, text_operators, texts_operators}
 use Rattle.pdf.specs.Numbers.{nearest, rounded}
 use Rattle.pdf.specs.Operators.{Operator, BeginText, Clip, ClosePath, EndText, Invisible, Layer, LineEnds, LineJoins, LineWidth, NoPaint, Rectangle, Save, Scale, StrokeColour, TextMatrix}
+use Rattle.pdf.specs.Units.{unit_of}
 use Rattle.pdf.specs.Ranges.{AreInRange}
 use Rattle.pdf.specs.Texts.{Piece, byte_of, has_letters, has_text, matrix_of, pieces, row_of, with_byte, written}
 use Rattle.pdf.proofs.ContentReads.{AllFit, AreBytes, IsSmall, text_read}
@@ -108,7 +109,7 @@ all_runs_in before (s ∷ ss) h k =
     run_step (is_some s.rule) s before (shape_runs_after [] ss) (shape_runs_after (before ++ s.strokes) ss) h k.0 (all_runs_in [] ss tt k.1)
     (all_runs_in (before ++ s.strokes) ss (both_in before s.strokes h k.0) k.1)
 
-small : (z : ℤ) → nat_abs z ≤ 1048576 → IsSmall z
+small : (z : ℤ) → nat_abs z ≤ 134217712 → IsSmall z
 small z h = omega (arith, h)
 
 line_fits : (s : Segment) → IsInRange s → AllFit (line_operators s)
@@ -223,7 +224,7 @@ rounded_small times z d h k =
     let near = nearest_small (times * nat_abs z) d h in
     sign_step (int_lt z (pos 0)) (nearest (times * nat_abs z) d) (omega (arith, near, k))
 
-less : (a b : ℤ) → nat_abs a ≤ 1048576 → nat_abs b ≤ 1048576 → nat_abs (a -ℤ b) ≤ 2097152
+less : (a b : ℤ) → nat_abs a ≤ 134217712 → nat_abs b ≤ 134217712 → nat_abs (a -ℤ b) ≤ 268435456
 less a b h k = omega (arith, ints, h, k)
 
 text_step : (b : Bool) (l : LineShape) → has_letters l ≡ b → IsLine l → AllFit (cond b (TextMatrix (matrix_of l) l.start.x l.start.y ∷ pieces_operators (pieces l.text)) [])
@@ -266,4 +267,4 @@ bytes_read page pens strokes areas labels h k =
     let texts = texts_operators pens strokes labels in
     let lines_in = runs_fit page (shape_runs_after [] ss) (all_runs_in [] ss tt (drawn_in pens (shapes strokes areas) (shapes_in 0 strokes areas (each_in strokes h)))) in
     let texts_in = texts_step (list_any (has_text pens strokes) labels) pens strokes labels k in
-    text_read (content_operators page pens strokes areas labels) (both_fit ((Scale ∷ LineEnds ∷ LineJoins ∷ []) ++ lines) texts (tt, (tt, (tt, lines_in))) texts_in)
+    text_read (content_operators page pens strokes areas labels) (both_fit ((Scale (unit_of page) ∷ LineEnds ∷ LineJoins ∷ []) ++ lines) texts (tt, (tt, (tt, lines_in))) texts_in)

@@ -17,7 +17,8 @@ use Rattle.pdf.specs.ContentReader.{bytes_in, colour, colour_part, operator, ope
 use Rattle.pdf.specs.Numbers.{digits_text, part, signed_thousandths, thousandths, two_digits}
 use Rattle.pdf.specs.Operators.{Operator, Scale, Layer, EndLayer, Save, Restore, Rectangle, Clip, NoPaint, StrokeColour}
 use Rattle.pdf.specs.Operators.{FillColour, LineWidth, LineEnds, LineJoins, MoveTo, LineTo, ClosePath, StrokePath, FillAndStroke}
-use Rattle.pdf.specs.Operators.{BeginText, Invisible, TextMatrix, Font, ShowText, EndText, operator_text, operators_text}
+use Rattle.pdf.specs.Operators.{BeginText, Invisible, TextMatrix, Font, ShowText, EndText, operator_text, operators_text, scale_factor}
+use Rattle.pdf.specs.declared.units.PageUnit.TheVariants.{One, Two, Three}
 
 -- thousandths are read as they were written
 digit_is : (a : ℕ) → a < 10 → is_digit (48 + a) 10 ≡ true
@@ -156,7 +157,7 @@ no_end (c ∷ cs) h =
 
 -- the words of an operator
 abbrev words : Operator → List (List ℕ)
-words Scale = codes "0.004429133858" ∷ codes "0" ∷ codes "0" ∷ codes "0.004429133858" ∷ codes "0" ∷ codes "0" ∷ codes "cm" ∷ []
+words (Scale unit) = scale_factor unit ∷ codes "0" ∷ codes "0" ∷ scale_factor unit ∷ codes "0" ∷ codes "0" ∷ codes "cm" ∷ []
 words (Layer pen) = codes "/OC" ∷ (codes "/P" ++ decimal pen) ∷ codes "BDC" ∷ []
 words EndLayer = codes "EMC" ∷ []
 words Save = codes "q" ∷ []
@@ -217,7 +218,9 @@ show_line d = simp append_assoc
 
 -- the text of an operator is its line
 lined : (o : Operator) → operator_text o ≡ line o ++ codes "\n"
-lined Scale = refl
+lined (Scale One) = refl
+lined (Scale Two) = refl
+lined (Scale Three) = refl
 lined (Layer pen) = layer_line (decimal pen)
 lined EndLayer = refl
 lined Save = refl
@@ -296,7 +299,9 @@ abbrev matrix_of : Option ℤ → Option ℤ → Option ℤ → Option ℤ → O
 matrix_of a b c d e f = a >>= (λ p. b >>= (λ q. c >>= (λ r. d >>= (λ s. e >>= (λ x. f >>= (λ y. Some (TextMatrix (record { a = p; b = q; c = r; d = s }) x y)))))))
 
 words_read : (o : Operator) → Fits o → operator (words o) ≡ Some o
-words_read Scale h = refl
+words_read (Scale One) h = refl
+words_read (Scale Two) h = refl
+words_read (Scale Three) h = refl
 words_read (Layer pen) h = ap (λ (o : Option ℕ). option_map Layer o) (numbers pen h)
 words_read EndLayer h = refl
 words_read Save h = refl
@@ -379,7 +384,9 @@ bytes_plain (n ∷ ns) h =
     lacks_both is_blank (two_digits n) (digits_text ns) both rest
 
 words_plain : (o : Operator) → Fits o → ArePlain (words o)
-words_plain Scale h = (refl, (refl, (refl, (refl, (refl, (refl, (refl, tt)))))))
+words_plain (Scale One) h = (refl, (refl, (refl, (refl, (refl, (refl, (refl, tt)))))))
+words_plain (Scale Two) h = (refl, (refl, (refl, (refl, (refl, (refl, (refl, tt)))))))
+words_plain (Scale Three) h = (refl, (refl, (refl, (refl, (refl, (refl, (refl, tt)))))))
 words_plain (Layer pen) h = (refl, (lacks_both is_blank (codes "/P") (decimal pen) refl (decimal_plain pen), (refl, tt)))
 words_plain EndLayer h = (refl, tt)
 words_plain Save h = (refl, tt)
@@ -431,7 +438,7 @@ all_words [] h k = absurd k
 all_words (w ∷ ws) h k = split_words 32 w ws (plain_words (w ∷ ws) h)
 
 some_words : (o : Operator) → HasWords (words o)
-some_words Scale = tt
+some_words (Scale unit) = tt
 some_words (Layer pen) = tt
 some_words EndLayer = tt
 some_words Save = tt

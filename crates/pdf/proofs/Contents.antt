@@ -197,12 +197,12 @@ page_members pens areas from strokes =
     ∙ ap (λ (zs : List Area). members_of (drawn_shapes pens (shapes_after 0 strokes zs))) (all_from (sheet_areas from (areas_in areas)))
 
 pub whole : (page : Page) (pens : PenSet) (areas : Areas) (from : ℕ) (strokes : List Segment)
-    → head_text ++ steps_text page no_path (members_from pens (roles_at areas from) strokes) ≡ shapes_text page pens strokes (sheet_areas from (areas_in areas))
+    → head_text page ++ steps_text page no_path (members_from pens (roles_at areas from) strokes) ≡ shapes_text page pens strokes (sheet_areas from (areas_in areas))
 whole page pens areas from strokes =
     let all = shapes strokes (sheet_areas from (areas_in areas)) in
     let ss = drawn_shapes pens all in
-    ap (λ (ms : List Member). head_text ++ steps_text page no_path ms) (page_members pens areas from strokes)
-    ∙ ap (λ (z : List ℕ). head_text ++ z) (all_written page pens ss (are_begun pens all) no_path (λ s. refl) [])
+    ap (λ (ms : List Member). head_text page ++ steps_text page no_path ms) (page_members pens areas from strokes)
+    ∙ ap (λ (z : List ℕ). head_text page ++ z) (all_written page pens ss (are_begun pens all) no_path (λ s. refl) [])
 
 -- the next stroke, which is drawn or not
 pub step_taken : (page : Page) (path : Path) (role : Option Role) (s : Segment) (rest : List Member)

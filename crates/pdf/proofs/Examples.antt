@@ -12,7 +12,9 @@ use Rattle.areas.specs.declared.area.Area.{Area}
 use Rattle.labels.specs.Labels.{LabelShape, LineShape}
 use Rattle.pdf.specs.Contents.{content_text, lines_operators, runs_operators, stroke_operators, texts_operators}
 use Rattle.pdf.specs.Operators.{colour_text, operators_text}
-use Rattle.pdf.specs.Documents.{font_object, font_objects, header_text, pdf_bytes, pens_drawn, resources_text, rows_shown, sheet_labels, sheets}
+use Rattle.pdf.specs.Documents.{font_object, font_objects, header_text, page_object, pdf_bytes, pens_drawn, resources_text, rows_shown, sheet_labels, sheets}
+use Rattle.pdf.specs.Units.{unit_by}
+use Rattle.pdf.specs.declared.units.PageUnit.TheVariants.{One, Two, Three}
 use Rattle.pdf.specs.Numbers.{part, points, rounded, signed_thousandths, utf_16_text}
 use Rattle.pdf.specs.TextReadings.{placed, texts_of}
 use Rattle.pdf.specs.Texts.{above, along, pieces}
@@ -69,13 +71,37 @@ abbrev all_pens : PenSet
 all_pens = record { chosen = replicate 256 true }
 
 -- lengths in points
-lengths : Table points (
+lengths : Table (points 1) (
     (11880, codes "841.89")  -- height of A4
     ∷ (1016, codes "72")  -- an inch
     ∷ []
     )
 unfolding digits
 lengths = refl
+
+-- units of pages
+units : Table unit_by (
+    (203200, One)  -- 14,400 points
+    ∷ (203201, Two)  -- over 14,400 points
+    ∷ (406400, Two)  -- 14,400 units of two points
+    ∷ (406401, Three)  -- over that
+    ∷ (524288, Three)  -- the longest side of a page
+    ∷ []
+    )
+units = refl
+
+-- lengths in units of three points
+long_lengths : Table (points 3) (
+    (524288, codes "12384.756")  -- the longest side of a page
+    ∷ (609600, codes "14400")  -- the longest side in such units
+    ∷ []
+    )
+unfolding digits
+long_lengths = refl
+
+a_long_page : page_object Two 9 ≡ codes "<</Type/Page/Parent 3 0 R/UserUnit 2/Contents 9 0 R>>"
+unfolding digits
+a_long_page = refl
 
 -- parts of a colour
 parts : Table part (

@@ -14,6 +14,7 @@ use Rattle.stroke_runs.specs.Runs.{shape_runs}
 use Rattle.labels.specs.Labels.{LabelShape, LineShape}
 use Rattle.stroke_runs.specs.Shown.{is_whole_page, is_shown}
 use Rattle.pdf.specs.Contents.{chain_end, clip_operators, content_text, end_operators, fill_operators, labels_operators, line_operators, lines_operators, rest_operators, run_operators, runs_operators, start_operators, stroke_operators, text_operators, texts_operators}
+use Rattle.pdf.specs.Units.{unit_of}
 use Rattle.pdf.specs.Operators.{Operator, Clip, ClosePath, Layer, LineWidth, NoPaint, Rectangle, Save, StrokeColour, Scale, LineEnds, LineJoins, BeginText, Invisible, EndText, colour_text, fill_colour_text, operator_text, operators_text, place_text, width_text}
 use Rattle.pdf.specs.RunTexts.{begin_text, chain_end_text, clip_text, end_text, fill_text, head_text, layer_text, line_text, rest_text, run_text, runs_text, shapes_text, start_text, stroke_text, window_text}
 
@@ -102,8 +103,8 @@ pub of_content : (page : Page) (pens : PenSet) (strokes : List Segment) (areas :
     → content_text page pens strokes areas labels ≡ shapes_text page pens strokes areas ++ operators_text (texts_operators pens strokes labels)
 of_content page pens strokes areas labels =
     let rs = shape_runs pens (shapes strokes areas) in
-    both ((Scale ∷ LineEnds ∷ LineJoins ∷ []) ++ runs_operators page rs) (texts_operators pens strokes labels) (shapes_text page pens strokes areas) (operators_text (texts_operators pens strokes labels))
-    (both (Scale ∷ LineEnds ∷ LineJoins ∷ []) (runs_operators page rs) head_text (runs_text page rs) refl (of_runs page rs)) refl
+    both ((Scale (unit_of page) ∷ LineEnds ∷ LineJoins ∷ []) ++ runs_operators page rs) (texts_operators pens strokes labels) (shapes_text page pens strokes areas) (operators_text (texts_operators pens strokes labels))
+    (both (Scale (unit_of page) ∷ LineEnds ∷ LineJoins ∷ []) (runs_operators page rs) (head_text page) (runs_text page rs) refl (of_runs page rs)) refl
 
 -- one line more
 pub of_lines : (l : LineShape) (ls : List LineShape) → operators_text (lines_operators (l ∷ ls)) ≡ operators_text (text_operators l) ++ operators_text (lines_operators ls)

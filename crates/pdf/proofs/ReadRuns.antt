@@ -21,6 +21,7 @@ use Rattle.labels.specs.Labels.{LabelShape, LineShape}
 use Rattle.std.specs.List.{list_any}
 use Rattle.stroke_runs.specs.Shown.{drawn_as, is_shown, shown_as_first, whole_page, widened}
 use Rattle.pdf.specs.Contents.{chain_end, content_operators, end_operators, fill_operators, labels_operators, line_operators, lines_operators, pieces_operators, rest_operators, run_operators, runs_operators, start_operators, stroke_operators, text_operators, texts_operators}
+use Rattle.pdf.specs.Units.{unit_of}
 use Rattle.pdf.specs.Operators.{Operator, Layer, LineWidth, Rectangle, Clip, ClosePath, NoPaint, Save, StrokeColour, Scale, LineEnds, LineJoins, BeginText, Invisible, EndText, TextMatrix}
 use Rattle.pdf.specs.Readings.{Graphics, Line, Painted, Reading, after, black, fill_by, line_painted, painted_line, read, shape_painted, start_of}
 use Rattle.pdf.specs.Texts.{Piece, has_letters, has_text, matrix_of, pieces}
@@ -369,7 +370,7 @@ pub content_read : (page : Page) (pens : PenSet) (strokes : List Segment) (areas
 content_read page pens strokes areas labels =
     let ss = drawn_shapes pens (shapes strokes areas) in
     let rs = shape_runs pens (shapes strokes areas) in
-    let drawing = (Scale ∷ LineEnds ∷ LineJoins ∷ []) ++ runs_operators page rs in
+    let drawing = (Scale (unit_of page) ∷ LineEnds ∷ LineJoins ∷ []) ++ runs_operators page rs in
     let painted = read (start_of page) drawing in
     ap (λ (r : Reading). r.painted)
     (read_join (start_of page) drawing (texts_operators pens strokes labels)

@@ -2,6 +2,7 @@
 use Rattle.std.proofs.Common.{◌≡◌, pos, negsuc, List, [], ◌∷◌, Some, None, codes, map, refl}
 use Rattle.pdf.specs.ContentReader.{bytes_in, colour_part, read_content, signed, unsigned}
 use Rattle.polygons.specs.declared.lines.Rule.TheVariants.{OddCounts, Winding}
+use Rattle.pdf.specs.declared.units.PageUnit.TheVariants.{One}
 use Rattle.pdf.specs.Operators.{Clip, ClosePath, EndLayer, EndText, FillAndStroke, FillColour, Font, Layer, LineTo, LineWidth, MoveTo, NoPaint, Rectangle, Restore, Save, Scale, ShowText, StrokeColour, StrokePath, TextMatrix}
 
 -- worked examples of a definition: what it is given, and what it says
@@ -56,7 +57,7 @@ contents : Table read_content (
     -- a run in a window: a rectangle is read by its corners
     (
       codes "0.004429133858 0 0 0.004429133858 0 0 cm\n/OC /P2 BDC\nq\n0 0 160 320 re\nW\nn\n1 0.533 0.004 RG\n24 w\n0 0 m\n-16 1056 l\nS\nQ\nEMC\n",
-      Some (Scale ∷ Layer 2 ∷ Save ∷ Rectangle (record { x0 = pos 0; y0 = pos 0; x1 = pos 160; y1 = pos 320 }) ∷ Clip ∷ NoPaint ∷ StrokeColour (record { red = 255; green = 136; blue = 1 }) ∷ LineWidth 24
+      Some (Scale One ∷ Layer 2 ∷ Save ∷ Rectangle (record { x0 = pos 0; y0 = pos 0; x1 = pos 160; y1 = pos 320 }) ∷ Clip ∷ NoPaint ∷ StrokeColour (record { red = 255; green = 136; blue = 1 }) ∷ LineWidth 24
           ∷ MoveTo (pos 0) (pos 0) ∷ LineTo (negsuc 15) (pos 1056) ∷ StrokePath ∷ Restore ∷ EndLayer ∷ []),
     )
     -- areas, by each rule

@@ -8,7 +8,9 @@ use Rattle.plot_page.specs.declared.colour.Colour.{Colour}
 use Rattle.polygons.specs.declared.lines.Rule.TheVariants.{OddCounts, Winding}
 use Rattle.pdf.specs.Operators.{Operator, Scale, Layer, EndLayer, Save, Restore, Rectangle, Clip, NoPaint, StrokeColour}
 use Rattle.pdf.specs.Operators.{FillColour, LineWidth, LineEnds, LineJoins, MoveTo, LineTo, ClosePath, StrokePath, FillAndStroke}
-use Rattle.pdf.specs.Operators.{BeginText, Invisible, TextMatrix, Font, ShowText, EndText}
+use Rattle.pdf.specs.Operators.{BeginText, Invisible, TextMatrix, Font, ShowText, EndText, scale_factor}
+use Rattle.pdf.specs.declared.units.PageUnit.{PageUnit}
+use Rattle.pdf.specs.declared.units.PageUnit.TheVariants.{One, Two, Three}
 
 abbrev pub line_feed : ℕ
 line_feed = 0x0A
@@ -103,11 +105,17 @@ after_four a b c d name = given (is_text name (codes "re")) (do
   Some (Rectangle (record { x0 = x; y0 = y; x1 = x +ℤ width; y1 = y +ℤ height }))
   )
 
--- a grain is 9/2032 point
-abbrev pub is_scale : List ℕ → List ℕ → List ℕ → List ℕ → List ℕ → List ℕ → Option Operator
-is_scale a b c d x y =
-    given (is_text a (codes "0.004429133858") && is_text b (codes "0") && is_text c (codes "0") && is_text d (codes "0.004429133858") && is_text x (codes "0") && is_text y (codes "0"))
-    (Some Scale)
+-- the unit of a page, by how many of them a grain is
+abbrev pub unit_in : List ℕ → Option PageUnit
+unit_in text =
+    if is_text text (scale_factor One) then Some One else
+    if is_text text (scale_factor Two) then Some Two else
+    if is_text text (scale_factor Three) then Some Three else None
+
+abbrev pub scale : List ℕ → List ℕ → List ℕ → List ℕ → List ℕ → List ℕ → Option Operator
+scale a b c d x y =
+    given (is_text b (codes "0") && is_text c (codes "0") && is_text d a && is_text x (codes "0") && is_text y (codes "0"))
+    (option_map Scale (unit_in a))
 
 abbrev pub text_matrix : List ℕ → List ℕ → List ℕ → List ℕ → List ℕ → List ℕ → Option Operator
 text_matrix a b c d e f = do
@@ -121,7 +129,7 @@ text_matrix a b c d e f = do
 
 abbrev pub after_six : List ℕ → List ℕ → List ℕ → List ℕ → List ℕ → List ℕ → List ℕ → Option Operator
 after_six a b c d e f name =
-    if is_text name (codes "cm") then is_scale a b c d e f else
+    if is_text name (codes "cm") then scale a b c d e f else
     if is_text name (codes "Tm") then text_matrix a b c d e f else None
 
 -- an operator, by the words of its line

@@ -15,6 +15,7 @@ use Rattle.stroke_runs.specs.Drawn.{is_joined}
 use Rattle.stroke_runs.specs.Runs.{shape_runs}
 use Rattle.stroke_runs.specs.Shown.{is_shown, is_whole_page}
 use Rattle.stroke_runs.specs.declared.shown.TheConstants.{LEAST_WIDTH}
+use Rattle.pdf.specs.Units.{unit_of}
 use Rattle.pdf.specs.Operators.{Operator, Scale, Layer, EndLayer, Save, Restore, Rectangle, Clip, NoPaint, StrokeColour}
 use Rattle.pdf.specs.Operators.{FillColour, LineWidth, LineEnds, LineJoins, MoveTo, LineTo, ClosePath, StrokePath, FillAndStroke}
 use Rattle.pdf.specs.Operators.{BeginText, Invisible, TextMatrix, Font, ShowText, EndText, operators_text}
@@ -108,7 +109,7 @@ texts_operators pens strokes labels =
 -- shown
 abbrev pub content_operators : Page → PenSet → List Segment → List Area → List LabelShape → List Operator
 content_operators page pens strokes areas labels =
-    (Scale ∷ LineEnds ∷ LineJoins ∷ []) ++ runs_operators page (shape_runs pens (shapes strokes areas))
+    (Scale (unit_of page) ∷ LineEnds ∷ LineJoins ∷ []) ++ runs_operators page (shape_runs pens (shapes strokes areas))
     ++ texts_operators pens strokes labels
 
 abbrev pub content_text : Page → PenSet → List Segment → List Area → List LabelShape → List ℕ

@@ -17,6 +17,9 @@ use Rattle.pdf.specs.Contents.{content_text}
 use Rattle.pdf.specs.Numbers.{points, two_digits, utf_16_text}
 use Rattle.pdf.specs.Objects.{objects_text, offsets_of, reference_text, table_text, trailer_text}
 use Rattle.pdf.specs.Texts.{shows_row}
+use Rattle.pdf.specs.Units.{count_of, unit_of}
+use Rattle.pdf.specs.declared.units.PageUnit.{PageUnit}
+use Rattle.pdf.specs.declared.units.PageUnit.TheVariants.{One, Two, Three}
 
 -- the strokes of each sheet, of which the first one begins after so many strokes; each ends after so many
 abbrev pub sheets : List Segment → ℕ → List ℕ → List (List Segment)
@@ -99,7 +102,7 @@ kids_text number (end ∷ ends) = reference_text number ++ kids_text (number + 3
 -- what all pages have: their size, the names of layers and of fonts, and how many pages there are
 abbrev pub shared_text : Page → List ℕ → List ℕ → ℕ → List ℕ
 shared_text page pens rows count =
-    codes "<</Type/Pages/MediaBox[0 0 " ++ points page.width ++ codes " " ++ points page.height
+    codes "<</Type/Pages/MediaBox[0 0 " ++ points (count_of (unit_of page)) page.width ++ codes " " ++ points (count_of (unit_of page)) page.height
     ++ codes "]/Resources<</Properties<<" ++ properties_text 5 pens ++ codes ">>"
     ++ resources_text (5 + length pens) rows ++ codes ">>/Count " ++ decimal count ++ codes "/Kids["
 
@@ -159,9 +162,16 @@ abbrev pub font_objects : ℕ → List ℕ → List (List ℕ)
 font_objects before [] = []
 font_objects before (row ∷ rows) = encoding_text ∷ row_objects (before + 1) (before + 1) (row ∷ rows)
 
--- a page, whose content is the object of this number
-abbrev pub page_object : ℕ → List ℕ
-page_object content = codes "<</Type/Page/Parent 3 0 R/Contents" ++ reference_text content ++ codes ">>"
+-- how many points the unit of a page has, if they are more than one
+abbrev pub user_unit : PageUnit → List ℕ
+user_unit One = []
+user_unit Two = codes "/UserUnit 2"
+user_unit Three = codes "/UserUnit 3"
+
+-- a page with this unit, whose content is the object of this number
+abbrev pub page_object : PageUnit → ℕ → List ℕ
+page_object unit content =
+    codes "<</Type/Page/Parent 3 0 R" ++ user_unit unit ++ codes "/Contents" ++ reference_text content ++ codes ">>"
 
 -- its content, whose length is in the object of this number
 abbrev pub stream_object : ℕ → List ℕ → List ℕ
@@ -169,20 +179,20 @@ stream_object size stream =
     codes "<</Filter/FlateDecode/Length" ++ reference_text size ++ codes ">>stream\n" ++ stream ++ codes "\nendstream"
 
 -- a page after so many objects: the page, its content, and how long that is, a count that stops at its greatest
-abbrev pub page_objects : ℕ → List ℕ → List (List ℕ)
-page_objects before stream =
-    page_object (before + 2) ∷ stream_object (before + 3) stream ∷ decimal (counted (length stream)) ∷ []
+abbrev pub page_objects : PageUnit → ℕ → List ℕ → List (List ℕ)
+page_objects unit before stream =
+    page_object unit (before + 2) ∷ stream_object (before + 3) stream ∷ decimal (counted (length stream)) ∷ []
 
-abbrev pub pages_objects : ℕ → List (List ℕ) → List (List ℕ)
-pages_objects before [] = []
-pages_objects before (stream ∷ streams) = page_objects before stream ++ pages_objects (before + 3) streams
+abbrev pub pages_objects : PageUnit → ℕ → List (List ℕ) → List (List ℕ)
+pages_objects unit before [] = []
+pages_objects unit before (stream ∷ streams) = page_objects unit before stream ++ pages_objects unit (before + 3) streams
 
 -- all objects
 abbrev pub objects : List ℕ → List ℕ → Page → List ℕ → List ℕ → List ℕ → List (List ℕ) → List (List ℕ)
 objects version title page pens rows ends streams =
     (catalog_text ∷ info_text version title ∷ pages_text page pens rows ends ∷ list_text pens ∷ [])
     ++ layer_objects pens ++ font_objects (4 + length pens) rows
-    ++ pages_objects (4 + length pens + font_count rows) streams
+    ++ pages_objects (unit_of page) (4 + length pens + font_count rows) streams
 
 -- what comes after objects that begin there: their table, which begins at `at`
 abbrev pub end_text : List ℕ → ℕ → List ℕ

@@ -5,6 +5,7 @@ pub mod Contents
 pub mod Texts
 pub mod Operators
 pub mod Numbers
+pub mod Units
 -- What the laws say: what the operators of a content draw, and which texts they show.
 pub mod Laws
 pub mod Readings

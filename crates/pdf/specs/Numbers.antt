@@ -21,9 +21,9 @@ abbrev pub rounded : ℕ → ℤ → ℕ → ℤ
 rounded times z d =
     if int_lt z (pos 0) then neg_ℤ (pos (nearest (times * nat_abs z) d)) else pos (nearest (times * nat_abs z) d)
 
--- a length of so many plotter units in points, to three decimals: 1,016 units are 72 points
-abbrev pub points : ℕ → List ℕ
-points units = thousandths ((18000 * units + 127) / 254)
+-- a length of so many plotter units in units of so many points, to three decimals: 1,016 plotter units are 72 points
+abbrev pub points : ℕ → ℕ → List ℕ
+points unit units = thousandths ((18000 * units + 127 * unit) / (254 * unit))
 
 -- a part of a colour, 0 to 255, as a number from 0 to 1, to three decimals
 abbrev pub part : ℕ → List ℕ

@@ -7,12 +7,14 @@ use Rattle.polygons.specs.declared.lines.Rule.{Rule}
 use Rattle.polygons.specs.declared.lines.Rule.TheVariants.{OddCounts, Winding}
 use Rattle.pdf.specs.Numbers.{digits_text, part, signed_thousandths}
 use Rattle.pdf.specs.Texts.{Matrix}
+use Rattle.pdf.specs.declared.units.PageUnit.{PageUnit}
+use Rattle.pdf.specs.declared.units.PageUnit.TheVariants.{One, Two, Three}
 
 -- a layer begins and ends; what is set is saved and restored; a rectangle is a path that clips; lines go from place to
 -- place, lead back to where they began, and are painted, with or without what is inside them; a text begins and ends, is
 -- invisible, is placed by a matrix, and has letters of a font
 pub data Operator : Type 0 where
-  Scale : Operator
+  Scale : (unit : PageUnit) → Operator
   Layer : (pen : ℕ) → Operator
   EndLayer : Operator
   Save : Operator
@@ -36,6 +38,15 @@ pub data Operator : Type 0 where
   Font : (row : ℕ) → Operator
   ShowText : (bytes : List ℕ) → Operator
   EndText : Operator
+
+-- how many units of a page a grain is: 9/2032 point
+abbrev pub scale_factor : PageUnit → List ℕ
+scale_factor One = codes "0.004429133858"
+scale_factor Two = codes "0.002214566929"
+scale_factor Three = codes "0.001476377953"
+
+abbrev pub scale_text : PageUnit → List ℕ
+scale_text unit = scale_factor unit ++ codes " 0 0 " ++ scale_factor unit ++ codes " 0 0 cm\n"
 
 -- a place
 abbrev pub place_text : ℤ → ℤ → List ℕ
@@ -70,7 +81,7 @@ paint_text Winding = codes "B\n"
 
 -- an operator as text
 abbrev pub operator_text : Operator → List ℕ
-operator_text Scale = codes "0.004429133858 0 0 0.004429133858 0 0 cm\n"
+operator_text (Scale unit) = scale_text unit
 operator_text (Layer pen) = codes "/OC /P" ++ decimal pen ++ codes " BDC\n"
 operator_text EndLayer = codes "EMC\n"
 operator_text Save = codes "q\n"

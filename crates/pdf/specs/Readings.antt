@@ -117,7 +117,7 @@ after r (FillAndStroke rule) = record r {
   lines = [];
   painted = r.painted ++ record { lines = map (painted_line r.pen r.set) r.lines; fill = Some (record { colour = r.set.fill; rule = rule }) } ∷ [];
 }
-after r Scale = r
+after r (Scale unit) = r
 after r NoPaint = r
 after r LineEnds = r
 after r LineJoins = r

@@ -12,11 +12,12 @@ use Rattle.stroke_runs.specs.Drawn.{is_joined}
 use Rattle.stroke_runs.specs.Runs.{shape_runs}
 use Rattle.stroke_runs.specs.Shown.{is_whole_page}
 use Rattle.stroke_runs.specs.declared.shown.TheConstants.{LEAST_WIDTH}
-use Rattle.pdf.specs.Operators.{colour_text, fill_colour_text, paint_text, place_text, rectangle_text, width_text}
+use Rattle.pdf.specs.Operators.{colour_text, fill_colour_text, paint_text, place_text, rectangle_text, scale_text, width_text}
+use Rattle.pdf.specs.Units.{unit_of}
 
--- a grain is 9/2032 point; line ends and joins are round
-abbrev pub head_text : List ℕ
-head_text = codes "0.004429133858 0 0 0.004429133858 0 0 cm\n1 J\n1 j\n"
+-- a grain is so many units of the page; line ends and joins are round
+abbrev pub head_text : Page → List ℕ
+head_text page = scale_text (unit_of page) ++ codes "1 J\n1 j\n"
 
 -- a stroke that begins where the last one ended
 abbrev pub line_text : Segment → List ℕ
@@ -89,4 +90,4 @@ runs_text page (run ∷ others) = run_text page run.rule run.strokes ++ runs_tex
 
 -- the drawn shapes of a page
 abbrev pub shapes_text : Page → PenSet → List Segment → List Area → List ℕ
-shapes_text page pens strokes areas = head_text ++ runs_text page (shape_runs pens (shapes strokes areas))
+shapes_text page pens strokes areas = head_text page ++ runs_text page (shape_runs pens (shapes strokes areas))

@@ -13,6 +13,8 @@ use Rattle.plot_page.specs.declared.pens.PenSet.{PenSet}
 use Rattle.pdf.specs.Documents.{AreStreams, page_areas, page_objects, pages_objects, pdf_bytes, pens_drawn, rows_shown}
 use Rattle.pdf.specs.Documents.{sheet_labels, sheets, stream_object}
 use Rattle.pdf.specs.Objects.{objects_text, offsets_of, reference_text}
+use Rattle.pdf.specs.Units.{unit_of}
+use Rattle.pdf.specs.declared.units.PageUnit.{PageUnit}
 
 -- what comes before the body of an object, and after it
 abbrev pub object_start : ℕ → List ℕ
@@ -50,17 +52,17 @@ pub record AddsStream {K : Type 0} (state : K → SinkState) (old new : Text K) 
   pub counts : size ≡ counted (length stream)
 
 -- a page was put, whose content is in a stream of a text
-pub record AddsPage {K : Type 0} (state : K → SinkState) (old new : Text K) (offsets after : List ℕ) (before : ℕ) (text : List ℕ) : Type 0 where
+pub record AddsPage {K : Type 0} (state : K → SinkState) (old new : Text K) (offsets after : List ℕ) (unit : PageUnit) (before : ℕ) (text : List ℕ) : Type 0 where
   pub stream : List ℕ
   pub reads : unzlib stream ≡ Some text
-  pub adds : Adds state old new offsets after before (page_objects before stream)
+  pub adds : Adds state old new offsets after before (page_objects unit before stream)
 
 -- pages were put, whose contents are in streams
 pub record AddsPages {K : Type 0} (state : K → SinkState) (old new : Text K) (offsets after : List ℕ) (before : ℕ) (page : Page) (pens : PenSet)
     (pages : List (List Segment)) (areas : List (List Area)) (labels : List (List LabelShape)) : Type 0 where
   pub streams : List (List ℕ)
   pub are : AreStreams page pens pages areas labels streams
-  pub adds : Adds state old new offsets after before (pages_objects before streams)
+  pub adds : Adds state old new offsets after before (pages_objects (unit_of page) before streams)
 
 -- a document was written whose contents are in streams, or the sink failed after a first part of it
 pub record WritesPdf (old new : SinkState) (version title : List ℕ) (page : Page) (pens : PenSet) (strokes : List Segment) (areas : List Area)

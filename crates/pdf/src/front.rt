@@ -4,6 +4,7 @@ ghost use Rattle.pieces.specs.Texts.{IsSound, Puts};
 ghost use Rattle.plot_page.specs.declared.stroke.TheConstants.{MOST_STROKES};
 ghost use Rattle.pdf.specs.Documents.{catalog_text, info_text, kids_text, list_text, pages_text, shared_text};
 ghost use Rattle.pdf.specs.Numbers.{points};
+ghost use Rattle.pdf.specs.Units.{count_of};
 ghost use Rattle.pdf.specs.Writings.{Adds};
 
 use crate::fonts::{font_count, put_resources};
@@ -12,6 +13,7 @@ use crate::objects::{begin_object, end_object, put_object, put_reference};
 use crate::pens::PENS;
 use crate::rows::ROWS;
 use crate::title::put_title;
+use crate::units::{PageUnit, count_of, unit_of};
 use devices::Sink;
 use pieces::{Fraction, Text};
 use plot_page::Page;
@@ -103,9 +105,10 @@ fn put_shared<K: Sink>(text: &mut Text<'_, K>, page: &Page, pens: &[u8], rows: &
     ensures puts { Puts K.state text.old text.new (shared_text page.now pens.now rows.now count) }
 {
     text.put(b"<</Type/Pages/MediaBox[0 0 ");
-    put_points(text, page.width);
+    let unit = unit_of(page);
+    put_points(text, unit, page.width);
     text.put(b" ");
-    put_points(text, page.height);
+    put_points(text, unit, page.height);
     text.put(b"]/Resources<</Properties<<");
     put_properties(text, 5, pens);
     text.put(b">>");
@@ -115,15 +118,16 @@ fn put_shared<K: Sink>(text: &mut Text<'_, K>, page: &Page, pens: &[u8], rows: &
     text.put(b"/Kids[");
 }
 
-// Puts a length of so many plotter units in points.
-fn put_points<K: Sink>(text: &mut Text<'_, K>, units: u32)
+// Puts a length of so many plotter units in units of a page.
+fn put_points<K: Sink>(text: &mut Text<'_, K>, unit: PageUnit, units: u32)
     requires sound { IsSound K.state text.old }
-    requires small { units ≤ 65536 }
-    ensures puts { Puts K.state text.old text.new (points units) }
+    requires small { units ≤ 524288 }
+    ensures puts { Puts K.state text.old text.new (points (count_of unit) units) }
 {
-    let thousandths = (18_000 * units + 127) / 254;
+    let count = count_of(unit);
+    let thousandths = (18_000 * u64::from(units) + 127 * count) / (254 * count);
     text.put_number(thousandths / 1000);
-    text.put(Fraction::new(thousandths % 1000).as_bytes());
+    text.put(Fraction::new((thousandths % 1000) as u32).as_bytes());
 }
 
 // Puts references to the pages of sheets that end there, from this number on.

@@ -23,6 +23,7 @@ mod stream;
 mod table;
 mod texts;
 mod title;
+mod units;
 
 pub use counts::{MOST_LETTERS, has_few_letters};
 pub use document::{room_for, write_pdf};

@@ -4,7 +4,7 @@ ghost use Rattle.pdf.specs.Contained.{Fills, IsOpen};
 ghost use Rattle.pdf.specs.Operators.{TextMatrix, matrix_text, operator_text};
 ghost use Rattle.pdf.specs.Texts.{above, along, matrix_of};
 ghost use Rattle.pdf.specs.declared.counts.TheConstants.{MOST_LETTERS};
-ghost use Rattle.plot_page.specs.declared.stroke.TheConstants.{FARTHEST_PLACE};
+ghost use Rattle.plot_page.specs.declared.stroke.TheConstants.{FARTHEST_END};
 
 use crate::content::PageContent;
 use crate::numbers::{put_signed_thousandths, rounded};
@@ -69,8 +69,8 @@ fn put_four<K: Sink>(
 
 // From one place to another for each of so many letters, which are 3/5 wide, in thousandths.
 fn along(from: i32, to: i32, letters: u64) -> i64
-    requires from { nat_abs from ≤ FARTHEST_PLACE }
-    requires to { nat_abs to ≤ FARTHEST_PLACE }
+    requires from { nat_abs from ≤ FARTHEST_END }
+    requires to { nat_abs to ≤ FARTHEST_END }
     requires some { 1 ≤ letters }
     requires few { letters ≤ MOST_LETTERS }
     ensures { result ≡ along from to letters }
@@ -80,8 +80,8 @@ fn along(from: i32, to: i32, letters: u64) -> i64
 
 // From one place to another for a letter that is 9/16 high, in thousandths.
 fn above(from: i32, to: i32) -> i64
-    requires from { nat_abs from ≤ FARTHEST_PLACE }
-    requires to { nat_abs to ≤ FARTHEST_PLACE }
+    requires from { nat_abs from ≤ FARTHEST_END }
+    requires to { nat_abs to ≤ FARTHEST_END }
     ensures { result ≡ above from to }
 {
     rounded(16_000, distance(from, to), 9)

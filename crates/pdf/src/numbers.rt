@@ -49,7 +49,7 @@ fn put_sign<K: Sink>(document: &mut Text<'_, K>, content: &mut PageContent<'_>, 
 
 // So many times a number of parts, of which `parts` are one, rounded to the nearest whole number, half away from zero.
 pub(crate) fn rounded(times: u64, number: i32, parts: u64) -> i64
-    requires small { times * nat_abs number ≤ 2 ^ 40 }
+    requires small { times * nat_abs number ≤ 2 ^ 44 }
     requires some { 1 ≤ parts }
     requires few { parts ≤ 2 ^ 40 }
     ensures { result ≡ rounded times number parts }
@@ -60,7 +60,7 @@ pub(crate) fn rounded(times: u64, number: i32, parts: u64) -> i64
 
 // The same without a sign.
 fn nearest(number: u64, parts: u64) -> u64
-    requires small { number ≤ 2 ^ 40 }
+    requires small { number ≤ 2 ^ 44 }
     requires some { 1 ≤ parts }
     requires few { parts ≤ 2 ^ 40 }
     ensures value { result ≡ nearest number parts }

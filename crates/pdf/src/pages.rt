@@ -5,8 +5,9 @@ ghost use Rattle.labels.specs.Sheets.{all_counted};
 ghost use Rattle.pieces.specs.Texts.{IsSound, Puts};
 ghost use Rattle.plot_page.specs.declared.stroke.TheConstants.{MOST_STROKES};
 ghost use Rattle.pdf.specs.Contents.{content_text};
-ghost use Rattle.pdf.specs.Documents.{page_areas, page_object, sheet_labels, sheets};
+ghost use Rattle.pdf.specs.Documents.{page_areas, page_object, sheet_labels, sheets, user_unit};
 ghost use Rattle.pdf.specs.Texts.{letter_count};
+ghost use Rattle.pdf.specs.Units.{unit_of};
 ghost use Rattle.pdf.specs.Writings.{Adds, AddsPage, AddsPages, AddsStream, stream_start};
 ghost use Rattle.pdf.specs.declared.counts.TheConstants.{MOST_LETTERS};
 ghost use Rattle.stroke_runs.specs.Sheets.{sheet_areas};
@@ -14,6 +15,7 @@ ghost use Rattle.stroke_runs.specs.Sheets.{sheet_areas};
 use crate::objects::{begin_object, end_object, put_reference};
 use crate::sheet::Sheet;
 use crate::stream::put_stream;
+use crate::units::{PageUnit, unit_of};
 use deflate::TextEncoder;
 use devices::Sink;
 use pieces::Text;
@@ -70,27 +72,42 @@ fn put_page<K: Sink>(
     requires letters { letter_count sheet.now.labels.now ≤ MOST_LETTERS }
     requires number { before < 2 ^ 31 }
     requires room { before + 3 ≤ length offsets.old }
-    ensures adds { AddsPage K.state text.old text.new offsets.old offsets.new before (content_text sheet.now.page.now
-        sheet.now.pens.now sheet.now.strokes.now (sheet_areas sheet.now.from (areas_in sheet.now.areas))
+    ensures adds { AddsPage K.state text.old text.new offsets.old offsets.new (unit_of sheet.now.page.now) before
+        (content_text sheet.now.page.now sheet.now.pens.now sheet.now.strokes.now
+        (sheet_areas sheet.now.from (areas_in sheet.now.areas))
         (all_counted sheet.now.from (all_counted sheet.now.earlier sheet.now.labels.now))) }
 {
-    put_start(text, offsets, before);
+    put_start(text, offsets, unit_of(sheet.page), before);
     let size = put_content(text, offsets, encoder, before + 1, sheet);
     put_length(text, offsets, before + 2, size);
 }
 
-// Puts the first object of a page, whose content is the object after it.
-fn put_start<K: Sink>(text: &mut Text<'_, K>, offsets: &mut [u64], before: u32)
+// Puts the first object of a page with this unit, whose content is the object after it.
+fn put_start<K: Sink>(text: &mut Text<'_, K>, offsets: &mut [u64], unit: PageUnit, before: u32)
     requires sound { IsSound K.state text.old }
     requires number { before < 2 ^ 31 }
     requires room { before + 1 ≤ length offsets.old }
-    ensures adds { Adds K.state text.old text.new offsets.old offsets.new before (page_object (before + 2) ∷ []) }
+    ensures adds { Adds K.state text.old text.new offsets.old offsets.new before (page_object unit (before + 2) ∷ []) }
 {
     begin_object(text, offsets, before);
-    text.put(b"<</Type/Page/Parent 3 0 R/Contents");
+    text.put(b"<</Type/Page/Parent 3 0 R");
+    put_user_unit(text, unit);
+    text.put(b"/Contents");
     put_reference(text, before + 2);
     text.put(b">>");
     end_object(text);
+}
+
+// Puts how many points the unit of a page has, if they are more than one.
+fn put_user_unit<K: Sink>(text: &mut Text<'_, K>, unit: PageUnit)
+    requires sound { IsSound K.state text.old }
+    ensures puts { Puts K.state text.old text.new (user_unit unit) }
+{
+    match unit {
+        PageUnit::One => {}
+        PageUnit::Two => text.put(b"/UserUnit 2"),
+        PageUnit::Three => text.put(b"/UserUnit 3"),
+    }
 }
 
 // Puts the content of a page, whose length is in the object after it, and returns that length, a count that stops at its

@@ -58,10 +58,10 @@ fn put_clip<K: Sink>(
 // Puts a window as what is drawn alone.
 fn put_window<K: Sink>(document: &mut Text<'_, K>, content: &mut PageContent<'_>, window: Window)
     requires open { IsOpen K.state document.old content.old }
-    requires x0 { nat_abs window.x0 ≤ 1048576 }
-    requires y0 { nat_abs window.y0 ≤ 1048576 }
-    requires x1 { nat_abs window.x1 ≤ 1048576 }
-    requires y1 { nat_abs window.y1 ≤ 1048576 }
+    requires x0 { nat_abs window.x0 ≤ 134217712 }
+    requires y0 { nat_abs window.y0 ≤ 134217712 }
+    requires x1 { nat_abs window.x1 ≤ 134217712 }
+    requires y1 { nat_abs window.y1 ≤ 134217712 }
     ensures fills { Fills K.state document.old document.new content.old content.new (window_text window) }
 {
     let width = distance(window.x0, window.x1);
@@ -91,10 +91,10 @@ fn put_rectangle<K: Sink>(
 
 // How far one place is from another.
 pub(crate) fn distance(from: i32, to: i32) -> i32
-    requires from { nat_abs from ≤ 1048576 }
-    requires to { nat_abs to ≤ 1048576 }
+    requires from { nat_abs from ≤ 134217712 }
+    requires to { nat_abs to ≤ 134217712 }
     ensures value { result ≡ to -ℤ from }
-    ensures near { nat_abs result ≤ 2097152 }
+    ensures near { nat_abs result ≤ 268435456 }
 {
     to - from
 }

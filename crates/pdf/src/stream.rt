@@ -16,6 +16,7 @@ use crate::path::Path;
 use crate::sheet::Sheet;
 use crate::steps::{put_end, put_step};
 use crate::texts::put_texts;
+use crate::units::put_head;
 use deflate::TextEncoder;
 use devices::Sink;
 use pieces::Text;
@@ -63,10 +64,7 @@ fn put_shapes<K: Sink>(document: &mut Text<'_, K>, content: &mut PageContent<'_>
 {
     let mut path = Path::new();
     let mut roles = Roles::new(sheet.areas, sheet.from);
-    content.put(
-        document,
-        b"0.004429133858 0 0 0.004429133858 0 0 cm\n1 J\n1 j\n",
-    );
+    put_head(document, content, sheet.page);
     for stroke in sheet.strokes {
         let role = roles.next(sheet.pens, stroke);
         put_step(document, content, sheet.page, &mut path, stroke, role);

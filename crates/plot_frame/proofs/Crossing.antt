@@ -61,11 +61,11 @@ small_by a u steep most h l m n =
     let p = product_within a.slope u steep most h l in
     record { size = omega arith; product_in = omega arith }
 
-near_unscaled : (margin : ℕ) (u : ℤ) → margin ≤ 65536 → IsNear (line_of (pos margin) (pos 1) (pos 0) (pos (10 ^ 6))) u → nat_abs u ≤ 2 ^ 67
+near_unscaled : (margin : ℕ) (u : ℤ) → margin ≤ 524288 → IsNear (line_of (pos margin) (pos 1) (pos 0) (pos (10 ^ 6))) u → nat_abs u ≤ 2 ^ 67
 near_unscaled margin u h k = of_line (pos margin) (pos 1) (pos 0) (10 ^ 6) (2 ^ 67) u (omega arith) (above_0 1 (omega arith))
     (omega arith) (omega arith) k
 
-origin_in : (start : ℤ) (margin : ℕ) → nat_abs start ≤ 2 ^ 25 → margin ≤ 65536 → nat_abs (start +ℤ pos margin) ≤ 2 ^ 26
+origin_in : (start : ℤ) (margin : ℕ) → nat_abs start ≤ 2 ^ 25 → margin ≤ 524288 → nat_abs (start +ℤ pos margin) ≤ 2 ^ 26
 origin_in start margin h k = omega (arith, ints)
 
 extent_in : (a b : ℤ) → nat_abs a ≤ 2 ^ 43 → nat_abs b ≤ 2 ^ 43 → 2 ^ 27 * nat_abs (b -ℤ a) + 2 ^ 44 ≤ 2 ^ 72
@@ -101,7 +101,7 @@ small_even a b u m e h f k =
     record { size = omega arith; product_in = omega arith }
 
 -- a coordinate that is near on one axis, on either axis
-crossed : (n m : AxisName) (p : Pair Ends) (s : Scaling) (here there : ℕ) (u : ℤ) → IsPoints p → IsScaling s → here ≤ 65536
+crossed : (n m : AxisName) (p : Pair Ends) (s : Scaling) (here there : ℕ) (u : ℤ) → IsPoints p → IsScaling s → here ≤ 524288
     → IsNear (axis_line n p s here) u → IsCrossed (axis_line m p s there) u
 crossed n m p Off here there u h k l w = small_by (axis_line m p Off there) u 16 (2 ^ 67) (omega arith) (near_unscaled here u l w)
     (omega arith) (omega arith)
@@ -149,7 +149,7 @@ number_small axes t l k = record { size = omega arith; product_in = λ n. number
 
 -- coordinates near the page, with a number added
 pub near_small : (n : AxisName) (p : Pair Ends) (s : Scaling) (margin : AxisName → ℕ) (u t : ℤ) → IsPoints p → IsScaling s
-    → ((m : AxisName) → margin m ≤ 65536) → IsNear (axis_line n p s (margin n)) u → nat_abs t ≤ 2 ^ 55
+    → ((m : AxisName) → margin m ≤ 524288) → IsNear (axis_line n p s (margin n)) u → nat_abs t ≤ 2 ^ 55
     → IsSmall (λ m. axis_line m p s (margin m)) (u +ℤ t)
 near_small n p s margin u t h k l v w =
     let a : (m : AxisName) → IsCrossed (axis_line m p s (margin m)) u = λ m. crossed n m p s (margin n) (margin m) u h k (l n) v in

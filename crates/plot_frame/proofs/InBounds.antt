@@ -44,7 +44,7 @@ line_in unit under origin s percent b n u v l d p o =
     }
 
 pub even_in : (size : Fraction) (s : Side) (percent : ℤ) (margin : ℕ) → IsUnit size
-    → IsSide s → nat_abs s.distance ≤ 2 ^ 25 → nat_abs percent ≤ 10 ^ 8 → margin ≤ 65536 → IsLine (line_of_even size s percent margin)
+    → IsSide s → nat_abs s.distance ≤ 2 ^ 25 → nat_abs percent ≤ 10 ^ 8 → margin ≤ 524288 → IsLine (line_of_even size s percent margin)
 even_in size s percent margin h l d p m =
     let unit = unit_along size s in
     let b1 = product_within (sign s.extent) size.over _ _ (sign_in s.extent) h.over_in in
@@ -54,15 +54,15 @@ even_in size s percent margin h l d p m =
     let u = h.under_above in
     line_in unit (pos size.under) (s.start +ℤ pos margin) s percent (omega arith) n h.under_in (omega (arith, ints)) l d p (omega (arith, ints))
 
-pub side_line_in : (s : Side) (margin : ℕ) → IsSide s → margin ≤ 65536 → IsLine (line_of_stretched s margin)
+pub side_line_in : (s : Side) (margin : ℕ) → IsSide s → margin ≤ 524288 → IsLine (line_of_stretched s margin)
 side_line_in s margin h m =
     let a = h.start_in in
     stretched_in (s.start +ℤ pos margin) s.distance s.least s.extent (omega (arith, ints)) h.distance_in h.distance_not_0 h.least_in h.extent_in h.extent_not_0
 
-unscaled_line_in : (margin : ℕ) → margin ≤ 65536 → IsLine (unscaled_line margin)
+unscaled_line_in : (margin : ℕ) → margin ≤ 524288 → IsLine (unscaled_line margin)
 unscaled_line_in margin m = stretched_in (pos margin) (pos 1) (pos 0) (pos (10 ^ 6)) (omega (arith, ints)) (omega arith) (above_0 1 (omega arith)) (omega arith) (omega arith) (above_0 (10 ^ 6) (omega arith))
 
-pub line_of_axis_in : (n : AxisName) (p : Pair Ends) (s : Scaling) (margin : ℕ) → IsPoints p → IsScaling s → margin ≤ 65536 → IsLine (axis_line n p s margin)
+pub line_of_axis_in : (n : AxisName) (p : Pair Ends) (s : Scaling) (margin : ℕ) → IsPoints p → IsScaling s → margin ≤ 524288 → IsLine (axis_line n p s margin)
 line_of_axis_in n p Off margin h k m = unscaled_line_in margin m
 line_of_axis_in n p (Anisotropic r) margin h k m =
     side_line_in (side_of (on_axis n p) (on_axis n r)) margin (side_in (on_axis n p) (on_axis n r) (both_on_axis IsEnds n p h) (both_on_axis IsRange n r k)) m

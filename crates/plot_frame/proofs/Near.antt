@@ -17,13 +17,13 @@ grows (pos zero) u m h k = absurd (h refl)
 grows (pos (suc s)) u m h k = let e = unsigned_abs-mul (pos (suc s)) u in omega (arith, ints)
 grows (negsuc s) u m h k = let e = unsigned_abs-mul (negsuc s) u in omega (arith, ints)
 
-place_core : (z d : ℤ) → pos 0 <ℤ d → nat_abs (round (quotient z d)) ≤ 2 ^ 21 → nat_abs z ≤ 2 ^ 22 * nat_abs d
+place_core : (z d : ℤ) → pos 0 <ℤ d → nat_abs (round (quotient z d)) ≤ 2 ^ 28 → nat_abs z ≤ 2 ^ 29 * nat_abs d
 place_core z (pos n) h l =
     let f : Fraction = quotient z (pos n) in
     let m = rounding.meets_lem f (omega (arith, ints)) in
     let a = m.least in
     let b = m.most in
-    let p = product_within (pos n) (round f) n (2 ^ 21) (omega arith) l in
+    let p = product_within (pos n) (round f) n (2 ^ 28) (omega arith) l in
     let e = mul_assoc_z (pos 2) (pos n) (round f) in
     omega (arith, ints)
 place_core z (negsuc n) h l = absurd (omega (arith, ints))
@@ -91,14 +91,14 @@ at_most_more : {a b : ℕ} (c : ℕ) → a ≤ b → a ≤ b + c
 at_most_more {a} {b} c h = omega arith
 
 -- a place near the page has a coordinate that is near
-pub near_by_place : (a : Axis) (u : ℤ) → IsLine a → nat_abs (place a u) ≤ 2 ^ 21 → IsNear a u
+pub near_by_place : (a : Axis) (u : ℤ) → IsLine a → nat_abs (place a u) ≤ 2 ^ 28 → IsNear a u
 near_by_place a u l h = record { near = at_most_more (nat_abs a.slope) (place_core (a.slope *ℤ u +ℤ a.offset) a.under l.under_above h) }
 
 -- and so has one that is taken again from such a place
-pub near_by_back : (a : Axis) (q : ℤ) → IsLine a → nat_abs q ≤ 2 ^ 21 → IsNear a (back a q)
+pub near_by_back : (a : Axis) (q : ℤ) → IsLine a → nat_abs q ≤ 2 ^ 28 → IsNear a (back a q)
 near_by_back a q l h =
     let e = back_core (q *ℤ a.under -ℤ a.offset) a.slope l.slope_not_0 in
-    let p = product_within q a.under (2 ^ 21) (nat_abs a.under) h (omega arith) in
+    let p = product_within q a.under (2 ^ 28) (nat_abs a.under) h (omega arith) in
     record { near = omega (arith, ints) }
 
 -- a coordinate that is near has a place

@@ -28,7 +28,7 @@ pub record IsUnscaled (a : Axis) : Type 0 where
 
 -- the coordinate of a place that is not far from the page, or one that is rounded to it
 pub record IsNear (a : Axis) (u : ℤ) : Type 0 where
-  pub near : nat_abs (a.slope *ℤ u +ℤ a.offset) ≤ 2 ^ 22 * nat_abs a.under + nat_abs a.slope
+  pub near : nat_abs (a.slope *ℤ u +ℤ a.offset) ≤ 2 ^ 29 * nat_abs a.under + nat_abs a.slope
 
 -- a coordinate of either axis that is small on both, so that it can be turned from one to the other
 pub record IsSmall (axes : AxisName → Axis) (u : ℤ) : Type 0 where

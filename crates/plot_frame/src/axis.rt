@@ -59,7 +59,7 @@ impl Axis {
     /// The coordinate of a place, in millionths of the current unit.
     pub fn coordinate(&self, q: i128) -> i128
         requires line { IsLine self.now }
-        requires q_in { nat_abs q ≤ 2 ^ 21 }
+        requires q_in { nat_abs q ≤ 2 ^ 28 }
         ensures value { result ≡ back self.now q }
         ensures near { IsNear self.now result }
     {

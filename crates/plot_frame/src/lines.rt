@@ -10,12 +10,12 @@ use crate::pair::{AxisName, Pair};
 use crate::scaling::{Ends, FittedRange, Scaling};
 use crate::sides::{Ratio, Side, factor_side, side_of, unit_on, unit_size};
 
-/// An axis of a frame on a page whose left or lower edge lies `margin` plotter units, at most 65,536,
+/// An axis of a frame on a page whose left or lower edge lies `margin` plotter units, at most 524,288,
 /// before 0.
 pub fn axis_of(name: AxisName, points: &Pair<Ends>, scaling: &Scaling, margin: u32) -> Axis
     requires points { IsPoints points.now }
     requires scaling { IsScaling scaling.now }
-    requires margin { margin ≤ 65536 }
+    requires margin { margin ≤ 524288 }
     ensures value { result ≡ axis_line name points.now scaling.now margin }
     ensures line { IsLine result }
 {
@@ -32,7 +32,7 @@ pub fn axis_of(name: AxisName, points: &Pair<Ends>, scaling: &Scaling, margin: u
 
 /// The axis on which coordinates are plotter units.
 pub fn unscaled_axis(margin: u32) -> Axis
-    requires margin { margin ≤ 65536 }
+    requires margin { margin ≤ 524288 }
     ensures value { result ≡ unscaled_line margin }
     ensures line { IsLine result }
 {
@@ -48,7 +48,7 @@ fn fitted_axis(
 ) -> Axis
     requires points { IsPoints points.now }
     requires fitting { IsScaling (Isotropic fitting.now) }
-    requires margin { margin ≤ 65536 }
+    requires margin { margin ≤ 524288 }
     ensures value { result ≡ axis_line name points.now (Isotropic fitting.now) margin }
     ensures line { IsLine result }
 {
@@ -62,7 +62,7 @@ fn fitted_axis(
 // The axis on which P1 and P2 have the ends of the range.
 fn stretched_axis(side: Side, margin: u32) -> Axis
     requires side { IsSide side }
-    requires margin { margin ≤ 65536 }
+    requires margin { margin ≤ 524288 }
     ensures value { result ≡ line_of_stretched side margin }
     ensures line { IsLine result }
 {
@@ -95,7 +95,7 @@ fn even_axis(size: Ratio, side: Side, percent: i128, margin: u32) -> Axis
     requires side { IsSide side }
     requires short { nat_abs side.distance ≤ 2 ^ 25 }
     requires percent_in { nat_abs percent ≤ 10 ^ 8 }
-    requires margin { margin ≤ 65536 }
+    requires margin { margin ≤ 524288 }
     ensures value { result ≡ line_of_even (seen size) side percent margin }
     ensures line { IsLine result }
 {

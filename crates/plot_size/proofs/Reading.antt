@@ -54,19 +54,19 @@ further width height [] = refl
 further width height (n ∷ ns) = further width height ns
 
 -- what the first two numbers ask for is what all ask for
-pub same_sides : (page : Page) (ns : List ℤ) → sides_measured page (measured ns) ≡ sides_by page ns
-same_sides page [] = refl
-same_sides page (length ∷ []) = refl
-same_sides page (length ∷ width ∷ ns) = ap (sides_measured page) (further (units length) (units width) ns)
+pub same_sides : (longest : ℕ) (page : Page) (ns : List ℤ) → sides_measured longest page (measured ns) ≡ sides_by longest page ns
+same_sides longest page [] = refl
+same_sides longest page (length ∷ []) = refl
+same_sides longest page (length ∷ width ∷ ns) = ap (sides_measured longest page) (further (units length) (units width) ns)
 
 -- the same, if they are only asked for before an end
-pub same_sides_if : (page : Page) (ended : Bool) (ns : List ℤ) → sides_measured page (if ended then measured ns else None) ≡ (if ended then sides_by page ns else None)
-same_sides_if page true ns = same_sides page ns
-same_sides_if page false ns = refl
+pub same_sides_if : (longest : ℕ) (page : Page) (ended : Bool) (ns : List ℤ) → sides_measured longest page (if ended then measured ns else None) ≡ (if ended then sides_by longest page ns else None)
+same_sides_if longest page true ns = same_sides longest page ns
+same_sides_if longest page false ns = refl
 
 -- what an item asks for that is a PS
-pub item_asks : (page : Page) (plot : List ℕ) (item : ItemShape) (code : List ℕ) (at : ℕ) → code ≡ item.code → at ≡ item.at → bytes_eq code (codes "PS") ≡ true
-    → sides_of_item page plot item ≡ sides_in page (drop 2 (drop at plot))
-item_asks page plot item code at same_code same_place is =
+pub item_asks : (longest : ℕ) (page : Page) (plot : List ℕ) (item : ItemShape) (code : List ℕ) (at : ℕ) → code ≡ item.code → at ≡ item.at → bytes_eq code (codes "PS") ≡ true
+    → sides_of_item longest page plot item ≡ sides_in longest page (drop 2 (drop at plot))
+item_asks longest page plot item code at same_code same_place is =
     let named : bytes_eq item.code (codes "PS") ≡ true = ap (λ (c : List ℕ). bytes_eq c (codes "PS")) (sym same_code) ∙ is in
-    rw named (ap (λ (n : ℕ). sides_in page (drop 2 (drop n plot))) (sym same_place))
+    rw named (ap (λ (n : ℕ). sides_in longest page (drop 2 (drop n plot))) (sym same_place))

@@ -35,6 +35,14 @@ sizes_in_core : Table (sides_asked Core given) (
     ∷ [])
 sizes_in_core = refl
 
+-- pages of the profile full are longer
+sizes_in_full : Table (sides_asked Full given) (
+    (codes "PS65537,64", sized 65537 64)
+    ∷ (codes "PS524288,524288", sized 524288 524288)  -- longest
+    ∷ (codes "PS524289,64", None)  -- too long
+    ∷ [])
+sizes_in_full = refl
+
 -- the profile full reads a comment up to its semicolon
 in_a_comment : sides_asked Full given (codes "CO PS400,300;") ≡ None
 in_a_comment = refl

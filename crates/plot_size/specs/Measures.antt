@@ -19,7 +19,7 @@ abbrev pub measured : List ℤ → Option (ℕ × Option ℕ)
 measured ns = fold with_number None ns
 
 -- the page that they ask for
-abbrev pub sides_measured : Page → Option (ℕ × Option ℕ) → Option Sides
-sides_measured page None = None
-sides_measured page (Some (width, None)) = checked (resized page width page.height)
-sides_measured page (Some (width, Some height)) = checked (resized page width height)
+abbrev pub sides_measured : ℕ → Page → Option (ℕ × Option ℕ) → Option Sides
+sides_measured longest page None = None
+sides_measured longest page (Some (width, None)) = checked longest (resized page width page.height)
+sides_measured longest page (Some (width, Some height)) = checked longest (resized page width height)

@@ -7,8 +7,10 @@ use Rattle.hpgl_text.specs.Cut.{cut_by}
 use Rattle.hpgl_text.specs.Numbers.{ends_numbers, numbers, past_numbers}
 use Rattle.hpgl_text.specs.Shapes.{ItemShape}
 use Rattle.hpgl_text.specs.declared.profile.Profile.{Profile}
+use Rattle.hpgl_text.specs.declared.profile.Profile.TheVariants.{Core, Full}
 use Rattle.page_fit.specs.Around.{Sides, checked}
 use Rattle.plot_page.specs.declared.page.Page.{Page}
+use Rattle.plot_page.specs.declared.page.TheConstants.{LONGEST_ROLL, LONGEST_SIDE}
 
 -- a number in plotter units, from millionths: to the nearest, halves upward; 0 if it is below 0
 abbrev pub units : ℤ → ℕ
@@ -19,26 +21,31 @@ abbrev pub resized : Page → ℕ → ℕ → Sides
 resized page width height = record { width = width; height = height; left = page.left; below = page.below }
 
 -- the page that numbers ask for: its width, which PS calls the length, and its height, or that of the given page if
--- there is one number; further ones change nothing. None if there is no number, or no page has this size
-abbrev pub sides_by : Page → List ℤ → Option Sides
-sides_by page [] = None
-sides_by page (length ∷ []) = checked (resized page (units length) page.height)
-sides_by page (length ∷ width ∷ _) = checked (resized page (units length) (units width))
+-- there is one number; further ones change nothing. None if there is no number, or a side is longer than the longest one
+abbrev pub sides_by : ℕ → Page → List ℤ → Option Sides
+sides_by longest page [] = None
+sides_by longest page (length ∷ []) = checked longest (resized page (units length) page.height)
+sides_by longest page (length ∷ width ∷ _) = checked longest (resized page (units length) (units width))
 
 -- the page that a PS asks for before this text; None if a byte that belongs to no number comes before its end
-abbrev pub sides_in : Page → List ℕ → Option Sides
-sides_in page text = if ends_numbers (past_numbers text) then sides_by page (numbers text) else None
+abbrev pub sides_in : ℕ → Page → List ℕ → Option Sides
+sides_in longest page text = if ends_numbers (past_numbers text) then sides_by longest page (numbers text) else None
 
 -- the page that an item asks for; only a PS does
-abbrev pub sides_of_item : Page → List ℕ → ItemShape → Option Sides
-sides_of_item page plot item =
-    if bytes_eq item.code (codes "PS") then sides_in page (drop 2 (drop item.at plot)) else None
+abbrev pub sides_of_item : ℕ → Page → List ℕ → ItemShape → Option Sides
+sides_of_item longest page plot item =
+    if bytes_eq item.code (codes "PS") then sides_in longest page (drop 2 (drop item.at plot)) else None
 
 -- what the first of the items that ask for a page asks for
-abbrev pub first_asked : Page → List ℕ → List ItemShape → Option Sides
-first_asked page plot [] = None
-first_asked page plot (item ∷ items) = option_or (sides_of_item page plot item) (first_asked page plot items)
+abbrev pub first_asked : ℕ → Page → List ℕ → List ItemShape → Option Sides
+first_asked longest page plot [] = None
+first_asked longest page plot (item ∷ items) = option_or (sides_of_item longest page plot item) (first_asked longest page plot items)
+
+-- the longest side of a page in a profile
+abbrev pub longest_side : Profile → ℕ
+longest_side Core = LONGEST_SIDE
+longest_side Full = LONGEST_ROLL
 
 -- the page of the size that a plot asks for; None if it asks for none
 abbrev pub sides_asked : Profile → Page → List ℕ → Option Sides
-sides_asked profile page plot = first_asked page plot (cut_by profile plot)
+sides_asked profile page plot = first_asked (longest_side profile) page plot (cut_by profile plot)

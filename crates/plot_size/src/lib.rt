@@ -5,4 +5,4 @@ mod asked;
 mod bytes;
 mod measures;
 
-pub use asked::page_asked;
+pub use asked::{longest_side, page_asked};

@@ -55,7 +55,7 @@ module _ (ruling : Ruling) (rule : Rule) (edges : Bor (List Edge)) (alloc : Glob
       subst P found_is (from_permutation found climbs.items moved)
 
   abbrev begun : Sweep
-  begun = record { alloc = alloc; edges = edges; ruling = ruling; rule = rule; climbs = climbs; line = negsuc 262143; begun = 0; active = active }
+  begun = record { alloc = alloc; edges = edges; ruling = ruling; rule = rule; climbs = climbs; line = negsuc 33554431; begun = 0; active = active }
 
   pub begins : IsSweep begun
   begins = record {
@@ -63,8 +63,8 @@ module _ (ruling : Ruling) (rule : Rule) (edges : Bor (List Edge)) (alloc : Glob
     sound = all_sound;
     rises = rises climbs.items sorted;
     begun_in = omega arith;
-    passed = All-nil (λ c. c.first ≤ℤ negsuc 262143);
-    ahead = All-weaker (IsClimb (length edges.now)) (λ c. negsuc 262143 ≤ℤ c.first) (λ c k. let f = k.range.first_in in omega (arith, ints, f)) climbs.items all_sound;
+    passed = All-nil (λ c. c.first ≤ℤ negsuc 33554431);
+    ahead = All-weaker (IsClimb (length edges.now)) (λ c. negsuc 33554431 ≤ℤ c.first) (λ c k. let f = k.range.first_in in omega (arith, ints, f)) climbs.items all_sound;
     active_is = none;
     line_in = omega (arith, ints);
   }
@@ -72,7 +72,7 @@ module _ (ruling : Ruling) (rule : Rule) (edges : Bor (List Edge)) (alloc : Glob
   pub begins_all : left begun ≡ filled ruling.lines rule edges.now
   begins_all =
       let h = ruling.apart_least in
-      all_filled ruling.lines (omega (arith, h)) rule edges.now (negsuc 262143)
+      all_filled ruling.lines (omega (arith, h)) rule edges.now (negsuc 33554431)
       (λ j l. none_crosses ruling.lines edges.now climbs.items same_items (omega (arith, h)) j
       (All-weaker (IsClimb (length edges.now)) (λ c. is_on j c ≡ false)
       (λ c k. let f = k.range.first_in in and_left (int_le c.first j) (int_lt j c.end) (le_false c.first j (omega (arith, ints, l, f))))

@@ -42,12 +42,12 @@ on_way a b v p q =
     (λ l. (inl (omega (arith, ints, clamps), omega (arith, ints, clamps)), omega (arith, ints)))
     (λ l. (inr (omega (arith, ints, clamps), omega (arith, ints, clamps)), omega (arith, ints, clamps)))
 
-part_between : (a b v : ℤ) → int_min a b ≤ℤ v → v <ℤ int_max a b → nat_abs a ≤ 10 ^ 7 * 2 ^ 30 → nat_abs b ≤ 10 ^ 7 * 2 ^ 30 → IsPart (v -ℤ a) (b -ℤ a)
+part_between : (a b v : ℤ) → int_min a b ≤ℤ v → v <ℤ int_max a b → nat_abs a ≤ 10 ^ 7 * 2 ^ 37 → nat_abs b ≤ 10 ^ 7 * 2 ^ 37 → IsPart (v -ℤ a) (b -ℤ a)
 part_between a b v p q h k =
     let w = on_way a b v p q in
     record { between = w.0; not_zero = w.1; most = omega (arith, ints) }
 
-part_of : (lines : Lines) (k : ℤ) (e : Edge) → crosses lines k e ≡ true → nat_abs (height lines e.from) ≤ 10 ^ 7 * 2 ^ 30 → nat_abs (height lines e.to) ≤ 10 ^ 7 * 2 ^ 30
+part_of : (lines : Lines) (k : ℤ) (e : Edge) → crosses lines k e ≡ true → nat_abs (height lines e.from) ≤ 10 ^ 7 * 2 ^ 37 → nat_abs (height lines e.to) ≤ 10 ^ 7 * 2 ^ 37
     → IsPart (level lines k -ℤ height lines e.from) (height lines e.to -ℤ height lines e.from)
 part_of lines k e c h j =
     let p = and_parts (int_le (bottom lines e) (level lines k)) (int_lt (level lines k) (top lines e)) c in
@@ -74,15 +74,15 @@ pub record AreWays (lines : Lines) (k : ℤ) (e : Edge) (below above l d : ℤ) 
   pub above_is : t above ≡ height lines e.to
   pub part : IsPart (level lines k -ℤ height lines e.from) (height lines e.to -ℤ height lines e.from)
 
-read_height : (a h below : ℤ) → a ≡ h → nat_abs a ≤ 10 ^ 7 * 2 ^ 30 → below ≡ s a → (t below ≡ h) × (nat_abs h ≤ 10 ^ 7 * 2 ^ 30)
+read_height : (a h below : ℤ) → a ≡ h → nat_abs a ≤ 10 ^ 7 * 2 ^ 37 → below ≡ s a → (t below ≡ h) × (nat_abs h ≤ 10 ^ 7 * 2 ^ 37)
 read_height a h below e m f =
     let fa : FitsSigned w64 a = fits_signed_from_abs w64 a (omega arith) in
     let g : below ≡ a = simp to_z-of_z at f in
     let fb : FitsSigned w128 below = rw g (fits_signed_from_abs w128 a (omega arith)) in
     (to_z-of_z w128 below fb ∙ g ∙ e, rw (← e) m)
 
-pub ways : (lines : Lines) (k : ℤ) (e : Edge) (a b below above l d : ℤ) → nat_abs k ≤ 2 ^ 18 → crosses lines k e ≡ true
-    → a ≡ height lines e.from → nat_abs a ≤ 10 ^ 7 * 2 ^ 30 → below ≡ s a → b ≡ height lines e.to → nat_abs b ≤ 10 ^ 7 * 2 ^ 30 → above ≡ s b
+pub ways : (lines : Lines) (k : ℤ) (e : Edge) (a b below above l d : ℤ) → nat_abs k ≤ 2 ^ 25 → crosses lines k e ≡ true
+    → a ≡ height lines e.from → nat_abs a ≤ 10 ^ 7 * 2 ^ 37 → below ≡ s a → b ≡ height lines e.to → nat_abs b ≤ 10 ^ 7 * 2 ^ 37 → above ≡ s b
     → l ≡ r k → d ≡ pos (line_distance lines) → line_distance lines ≤ 10 ^ 7 * 2 ^ 40 → AreWays lines k e below above l d
 ways lines k e a b below above l d hk c ea ha eb fa hb fb el ed hd =
     let p = read_height a (height lines e.from) below ea ha eb in
@@ -93,12 +93,12 @@ ways lines k e a b below above l d hk c ea ha eb fa hb fb el ed hd =
     let fd : FitsSigned w128 (pos (line_distance lines)) = fits_signed_from_abs w128 (pos (line_distance lines)) (omega arith) in
     let tl : t l ≡ k = rw gl (to_z-of_z w128 k fl) in
     let td : t d ≡ pos (line_distance lines) = rw ed (to_z-of_z w128 (pos (line_distance lines)) fd) in
-    let m = product_within k (pos (line_distance lines)) (2 ^ 18) (10 ^ 7 * 2 ^ 40) hk hd in
+    let m = product_within k (pos (line_distance lines)) (2 ^ 25) (10 ^ 7 * 2 ^ 40) hk hd in
     let fm : FitsSigned w128 (level lines k) = fits_signed_from_abs w128 (level lines k) (omega (arith, m)) in
     let tm : t (t l *ℤ t d) ≡ level lines k = rw (tl, td) (to_z-of_z w128 (level lines k) fm) in
-    let n = difference_within (level lines k) (height lines e.from) (2 ^ 18 * (10 ^ 7 * 2 ^ 40)) (10 ^ 7 * 2 ^ 30) m p.1 in
+    let n = difference_within (level lines k) (height lines e.from) (2 ^ 25 * (10 ^ 7 * 2 ^ 40)) (10 ^ 7 * 2 ^ 37) m p.1 in
     let fn : FitsSigned w128 (level lines k -ℤ height lines e.from) = fits_signed_from_abs w128 (level lines k -ℤ height lines e.from) (omega (arith, n)) in
-    let o = difference_within (height lines e.to) (height lines e.from) (10 ^ 7 * 2 ^ 30) (10 ^ 7 * 2 ^ 30) q.1 p.1 in
+    let o = difference_within (height lines e.to) (height lines e.from) (10 ^ 7 * 2 ^ 37) (10 ^ 7 * 2 ^ 37) q.1 p.1 in
     let fo : FitsSigned w128 (height lines e.to -ℤ height lines e.from) = fits_signed_from_abs w128 (height lines e.to -ℤ height lines e.from) (omega (arith, o)) in
     record {
       level_fits = rw (tl, td) fm;
@@ -121,11 +121,11 @@ crossing_is lines k e n place along upward p q u =
     ap (λ (z : ℤ). made n place z upward) q ∙ ap₂ (λ (x : Spot) (y : Bool). crossing_by lines x y n) p u
 
 -- the lines of a climb, as code reads its numbers
-pub max_read : (a b high : ℤ) → nat_abs a ≤ 10 ^ 7 * 2 ^ 30 → nat_abs b ≤ 10 ^ 7 * 2 ^ 30 → high ≡ int_max (s a) (s b) → nat_abs (s high) ≤ 10 ^ 7 * 2 ^ 30
+pub max_read : (a b high : ℤ) → nat_abs a ≤ 10 ^ 7 * 2 ^ 37 → nat_abs b ≤ 10 ^ 7 * 2 ^ 37 → high ≡ int_max (s a) (s b) → nat_abs (s high) ≤ 10 ^ 7 * 2 ^ 37
 max_read a b high ha hb e =
     let fa : FitsSigned w64 a = fits_signed_from_abs w64 a (omega arith) in
     let fb : FitsSigned w64 b = fits_signed_from_abs w64 b (omega arith) in
-    let m = max_within a b (10 ^ 7 * 2 ^ 30) ha hb in
+    let m = max_within a b (10 ^ 7 * 2 ^ 37) ha hb in
     let g : high ≡ int_max a b = simp to_z-of_z at e in
     let fh : FitsSigned w64 high = rw g (fits_signed_from_abs w64 (int_max a b) (omega (arith, m))) in
     rw (to_z-of_z w64 high fh, g) m
@@ -138,14 +138,14 @@ pub record IsClimbed (lines : Lines) (a b low high first end : ℤ) : Type 0 whe
   pub first_back : r first ≡ first
   pub end_back : r end ≡ end
 
-pub climbed : (lines : Lines) (a b low high first end : ℤ) → nat_abs a ≤ 10 ^ 7 * 2 ^ 30 → nat_abs b ≤ 10 ^ 7 * 2 ^ 30
+pub climbed : (lines : Lines) (a b low high first end : ℤ) → nat_abs a ≤ 10 ^ 7 * 2 ^ 37 → nat_abs b ≤ 10 ^ 7 * 2 ^ 37
     → low ≡ int_min (s a) (s b) → high ≡ int_max (s a) (s b) → first ≡ line_from lines (s low) → end ≡ line_from lines (s high)
-    → nat_abs first ≤ 2 ^ 18 → nat_abs end ≤ 2 ^ 18 → IsClimbed lines a b low high first end
+    → nat_abs first ≤ 2 ^ 25 → nat_abs end ≤ 2 ^ 25 → IsClimbed lines a b low high first end
 climbed lines a b low high first end ha hb el eh ef ee hf he =
     let fa : FitsSigned w64 a = fits_signed_from_abs w64 a (omega arith) in
     let fb : FitsSigned w64 b = fits_signed_from_abs w64 b (omega arith) in
-    let m = min_within a b (10 ^ 7 * 2 ^ 30) ha hb in
-    let n = max_within a b (10 ^ 7 * 2 ^ 30) ha hb in
+    let m = min_within a b (10 ^ 7 * 2 ^ 37) ha hb in
+    let n = max_within a b (10 ^ 7 * 2 ^ 37) ha hb in
     let gl : low ≡ int_min a b = simp to_z-of_z at el in
     let gh : high ≡ int_max a b = simp to_z-of_z at eh in
     let fl : FitsSigned w64 low = rw gl (fits_signed_from_abs w64 (int_min a b) (omega (arith, m))) in

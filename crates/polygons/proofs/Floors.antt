@@ -72,7 +72,7 @@ s z = to_z w64 (of_z w64 z)
 -- the line below a height, as code computes it
 pub record IsBelow (lines : Lines) (h b : ℤ) : Type 0 where
   pub is : b ≡ int_div_euclid (neg_ℤ h) (pos (line_distance lines))
-  pub within : nat_abs b ≤ 2 ^ 18
+  pub within : nat_abs b ≤ 2 ^ 25
 
 minus : (h : ℤ) → pos 0 -ℤ h ≡ neg_ℤ h
 minus h = omega (arith, ints)
@@ -80,21 +80,21 @@ minus h = omega (arith, ints)
 minus_within : (h : ℤ) (m : ℕ) → nat_abs h ≤ m → nat_abs (neg_ℤ h) ≤ m
 minus_within h m k = omega (arith, ints)
 
-scaled_up : (n : ℕ) → 10 ^ 7 * 2 ^ 12 ≤ n → 10 ^ 7 * 2 ^ 30 ≤ n * 2 ^ 18
+scaled_up : (n : ℕ) → 10 ^ 7 * 2 ^ 12 ≤ n → 10 ^ 7 * 2 ^ 37 ≤ n * 2 ^ 25
 scaled_up n h = omega arith
 
-pub below_read : (lines : Lines) (h f k b : ℤ) → nat_abs h ≤ 10 ^ 7 * 2 ^ 30 → 10 ^ 7 * 2 ^ 12 ≤ line_distance lines → line_distance lines ≤ 10 ^ 7 * 2 ^ 40
+pub below_read : (lines : Lines) (h f k b : ℤ) → nat_abs h ≤ 10 ^ 7 * 2 ^ 37 → 10 ^ 7 * 2 ^ 12 ≤ line_distance lines → line_distance lines ≤ 10 ^ 7 * 2 ^ 40
     → f ≡ s h → k ≡ pos (line_distance lines) → b ≡ int_div_euclid (t (pos 0 -ℤ t f)) (t k) → IsBelow lines h b
 below_read lines h f k b m l u ef ek eb =
     let fh : FitsSigned w64 h = fits_signed_from_abs w64 h (omega arith) in
     let e = simp to_z-of_z at ef in
-    let mf : nat_abs f ≤ 10 ^ 7 * 2 ^ 30 = rw e m in
-    let n : nat_abs (neg_ℤ f) ≤ 10 ^ 7 * 2 ^ 30 = minus_within f (10 ^ 7 * 2 ^ 30) mf in
+    let mf : nat_abs f ≤ 10 ^ 7 * 2 ^ 37 = rw e m in
+    let n : nat_abs (neg_ℤ f) ≤ 10 ^ 7 * 2 ^ 37 = minus_within f (10 ^ 7 * 2 ^ 37) mf in
     let ff : FitsSigned w128 f = fits_signed_from_abs w128 f (omega arith) in
     let fn : FitsSigned w128 (neg_ℤ f) = fits_signed_from_abs w128 (neg_ℤ f) (omega arith) in
     let fk : FitsSigned w128 (pos (line_distance lines)) = fits_signed_from_abs w128 (pos (line_distance lines)) (omega arith) in
     let g : b ≡ int_div_euclid (neg_ℤ h) (pos (line_distance lines)) = rw (ek, to_z-of_z w128 f ff, minus f, to_z-of_z w128 (neg_ℤ f) fn, to_z-of_z w128 (pos (line_distance lines)) fk, e) at eb in
     record {
       is = g;
-      within = rw g (floor_within (neg_ℤ h) (line_distance lines) (2 ^ 18) (omega arith) (omega (arith, minus_within h (10 ^ 7 * 2 ^ 30) m, scaled_up (line_distance lines) l)));
+      within = rw g (floor_within (neg_ℤ h) (line_distance lines) (2 ^ 25) (omega arith) (omega (arith, minus_within h (10 ^ 7 * 2 ^ 37) m, scaled_up (line_distance lines) l)));
     }

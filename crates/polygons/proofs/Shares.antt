@@ -84,13 +84,13 @@ moved_within a b t u m part h k =
     let g = r.1 in
     omega (arith, ints, l, g)
 
-pub share_within : (a b t u : ℤ) → IsPart t u → nat_abs a ≤ 2 ^ 20 → nat_abs b ≤ 2 ^ 20 → nat_abs (share_of_distance (b -ℤ a) t u) ≤ 2 ^ 21
+pub share_within : (a b t u : ℤ) → IsPart t u → nat_abs a ≤ 2 ^ 27 → nat_abs b ≤ 2 ^ 27 → nat_abs (share_of_distance (b -ℤ a) t u) ≤ 2 ^ 28
 share_within a b t u part h k =
-    let r = moved_within a b t u (2 ^ 20) part h k in
+    let r = moved_within a b t u (2 ^ 27) part h k in
     omega (arith, ints, r)
 
 -- t is no greater than u
-pub part_within : (t u : ℤ) → IsPart t u → nat_abs t ≤ 2 ^ 56
+pub part_within : (t u : ℤ) → IsPart t u → nat_abs t ≤ 2 ^ 62
 part_within t u part =
     let m = part.most in
     elim (part.between) [
@@ -98,8 +98,8 @@ part_within t u part =
       | inr r ↦ omega (arith, ints, r.0, r.1, m)
     ]
 
-pub share_product : (a b t u : ℤ) → IsPart t u → nat_abs a ≤ 2 ^ 20 → nat_abs b ≤ 2 ^ 20 → nat_abs ((b -ℤ a) *ℤ t) ≤ 2 ^ 21 * 2 ^ 56
-share_product a b t u part h k = product_within (b -ℤ a) t (2 ^ 21) (2 ^ 56) (omega (arith, ints)) (part_within t u part)
+pub share_product : (a b t u : ℤ) → IsPart t u → nat_abs a ≤ 2 ^ 27 → nat_abs b ≤ 2 ^ 27 → nat_abs ((b -ℤ a) *ℤ t) ≤ 2 ^ 28 * 2 ^ 62
+share_product a b t u part h k = product_within (b -ℤ a) t (2 ^ 28) (2 ^ 62) (omega (arith, ints)) (part_within t u part)
 
 -- a part by numbers that are k times as great
 scaled_up : (k : ℕ) (d t : ℤ) (n : ℕ) → 0 < k → 0 < n → share_of_distance d (pos k *ℤ t) (pos (k * n)) ≡ share_of_distance d t (pos n)
@@ -153,7 +153,7 @@ pub record IsWhole (a q v : ℤ) : Type 0 where
   pub read : to_z w128 (of_z w128 v) ≡ q
 
 -- as code finds it
-pub is_whole : (a q v : ℤ) → nat_abs a ≤ 2 ^ 56 → q ≡ int_div_euclid (to_z w64 (of_z w64 a)) (pos (10 ^ 7))
+pub is_whole : (a q v : ℤ) → nat_abs a ≤ 2 ^ 62 → q ≡ int_div_euclid (to_z w64 (of_z w64 a)) (pos (10 ^ 7))
     → of_z w64 (pos (10 ^ 7) *ℤ to_z w64 (of_z w64 q)) ≡ of_z w64 a → v ≡ to_z w64 (of_z w64 q) → IsWhole a q v
 is_whole a q v m e h j =
     let fa : FitsSigned w64 a = fits_signed_from_abs w64 a (omega (arith, m)) in
@@ -179,13 +179,13 @@ part_read t u part =
     let m = part_within t u part in
     record { first = back t m; second = back u part.most; wide_first = wide_back t m; wide_second = wide_back u part.most }
   where
-    back : (z : ℤ) → nat_abs z ≤ 2 ^ 56 → to_z w64 (of_z w64 (to_z w128 (of_z w128 z))) ≡ z
+    back : (z : ℤ) → nat_abs z ≤ 2 ^ 62 → to_z w64 (of_z w64 (to_z w128 (of_z w128 z))) ≡ z
     back z m =
         let narrow : FitsSigned w64 z = fits_signed_from_abs w64 z (omega (arith, m)) in
         let wide : FitsSigned w128 z = fits_signed_from_abs w128 z (omega (arith, m)) in
         simp to_z-of_z
 
-    wide_back : (z : ℤ) → nat_abs z ≤ 2 ^ 56 → to_z w128 (of_z w128 z) ≡ z
+    wide_back : (z : ℤ) → nat_abs z ≤ 2 ^ 62 → to_z w128 (of_z w128 z) ≡ z
     wide_back z m = to_z-of_z w128 z (fits_signed_from_abs w128 z (omega (arith, m)))
 
 -- parts with the same shares lead to the same place

@@ -23,7 +23,7 @@ nothing = record { first = pos 0; end = pos 0; number = 0 }
 pub step_above : (s : Sweep) → 0 < line_distance s.ruling.lines
 step_above s = let h = s.ruling.apart_least in omega (arith, h)
 
-pub first_near : (s : Sweep) (c : Climb) → IsSweep s → s.begun < length s.climbs.items → c ≡ get_or s.climbs.items s.begun c → nat_abs c.first ≤ 2 ^ 18
+pub first_near : (s : Sweep) (c : Climb) → IsSweep s → s.begun < length s.climbs.items → c ≡ get_or s.climbs.items s.begun c → nat_abs c.first ≤ 2 ^ 25
 first_near s c h l e =
     let sound = rw (← e) at (All-get_or (IsClimb (length s.edges.now)) s.climbs.items s.begun c l h.sound) in
     sound.range.first_in
@@ -106,7 +106,7 @@ line_crossed s h =
     let m = h.some in
     one_crosses s.ruling.lines s.edges.now s.climbs.items k.same (step_above s) s.line (omega (arith, e, m))
 
-pub line_below : (s : Sweep) → IsReady s → nat_abs (s.line +ℤ pos 1) ≤ 2 ^ 18
+pub line_below : (s : Sweep) → IsReady s → nat_abs (s.line +ℤ pos 1) ≤ 2 ^ 25
 line_below s h =
     let k = h.sound in
     let n = length s.edges.now in

@@ -12,7 +12,7 @@ use Rattle.polygons.specs.Fills.{Crossing, bottom, top, line_from, crossing, ran
 pub record IsPart (t u : ℤ) : Type 0 where
   pub between : ((pos 0 ≤ℤ t) × (t ≤ℤ u)) ⊎ ((u ≤ℤ t) × (t ≤ℤ pos 0))
   pub not_zero : 0 < nat_abs u
-  pub most : nat_abs u ≤ 2 ^ 56
+  pub most : nat_abs u ≤ 2 ^ 62
 
 -- the lines from `first` on below `end`, if there are any, with the number of their edge
 abbrev pub climb_by : ℤ → ℤ → ℕ → List Climb
@@ -29,8 +29,8 @@ climbs_of lines n (e ∷ es) = climb_of lines n e ++ climbs_of lines (suc n) es
 
 -- the numbers of lines are in range, and there is a line
 pub record IsInRange (c : Climb) : Type 0 where
-  pub first_in : nat_abs c.first ≤ 2 ^ 18
-  pub end_in : nat_abs c.end ≤ 2 ^ 18
+  pub first_in : nat_abs c.first ≤ 2 ^ 25
+  pub end_in : nat_abs c.end ≤ 2 ^ 25
   pub rising : c.first <ℤ c.end
 
 -- and the edge is one of n

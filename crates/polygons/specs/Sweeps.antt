@@ -19,7 +19,7 @@ pub record IsSweep (s : Sweep) : Type 0 where
   pub passed : All (λ c. c.first ≤ℤ s.line) (take s.begun s.climbs.items)
   pub ahead : All (λ c. s.line ≤ℤ c.first) (drop s.begun s.climbs.items)
   pub active_is : s.active.items ≡ filter (λ c. int_lt s.line c.end) (take s.begun s.climbs.items)
-  pub line_in : nat_abs s.line ≤ 2 ^ 18
+  pub line_in : nat_abs s.line ≤ 2 ^ 25
 
 -- all climbs of this line are active, and there is one
 pub record IsReady (s : Sweep) : Type 0 where

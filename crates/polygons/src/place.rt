@@ -5,7 +5,7 @@ ghost use Rattle.polygons.specs.Bounds.{IsPlace};
 use exact::Spot;
 use std::marker::Model;
 
-/// A place in grains of 1/16 plotter unit, within 2^20 of 0 in x and in y. It takes 8 bytes.
+/// A place in grains of 1/16 plotter unit, within 2^27 of 0 in x and in y. It takes 8 bytes.
 #[derive(Clone, Copy, Debug, PartialEq, Eq)]
 pub struct Place {
     x: i32,
@@ -51,14 +51,14 @@ impl Place {
     // Its coordinates as numbers of 64 bits.
     pub(crate) fn x(self) -> i64
         ensures value { result ≡ self.x }
-        ensures most { nat_abs result ≤ 2 ^ 20 }
+        ensures most { nat_abs result ≤ 2 ^ 27 }
     {
         i64::from(self.x)
     }
 
     pub(crate) fn y(self) -> i64
         ensures value { result ≡ self.y }
-        ensures most { nat_abs result ≤ 2 ^ 20 }
+        ensures most { nat_abs result ≤ 2 ^ 27 }
     {
         i64::from(self.y)
     }

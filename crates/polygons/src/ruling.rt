@@ -45,7 +45,7 @@ impl Ruling {
     // How far a place is from the line through the anchor.
     pub fn height(&self, place: Place) -> i64
         ensures value { result ≡ height self.now.lines place }
-        ensures most { nat_abs result ≤ 10 ^ 7 * 2 ^ 30 }
+        ensures most { nat_abs result ≤ 10 ^ 7 * 2 ^ 37 }
     {
         let anchor = self.lines.anchor;
         let up = product(self.cosine, place.y() - anchor.y());
@@ -56,7 +56,7 @@ impl Ruling {
     // How far along the lines a place is.
     pub fn rank(&self, place: Place) -> i64
         ensures value { result ≡ rank self.now.lines place }
-        ensures most { nat_abs result ≤ 10 ^ 7 * 2 ^ 22 }
+        ensures most { nat_abs result ≤ 10 ^ 7 * 2 ^ 29 }
     {
         product(self.cosine, place.x()) + product(self.sine, place.y())
     }
@@ -72,9 +72,9 @@ impl Ruling {
 
     // The least line that is not below a height.
     pub fn line_from(&self, height: i64) -> i32
-        requires { nat_abs height ≤ 10 ^ 7 * 2 ^ 30 }
+        requires { nat_abs height ≤ 10 ^ 7 * 2 ^ 37 }
         ensures value { result ≡ line_from self.now.lines height }
-        ensures most { nat_abs result ≤ 2 ^ 18 }
+        ensures most { nat_abs result ≤ 2 ^ 25 }
     {
         let below = (-i128::from(height)).div_euclid(self.line_distance());
         -(below as i32)
@@ -98,7 +98,7 @@ impl Ruling {
 
     // Where an edge crosses a line.
     pub fn crossing(&self, line: i32, edge: &Edge, number: usize) -> Crossing
-        requires line_in { nat_abs line ≤ 2 ^ 18 }
+        requires line_in { nat_abs line ≤ 2 ^ 25 }
         requires crosses { crosses self.now.lines line edge.now ≡ true }
         ensures { result ≡ crossing_of self.now.lines line edge.now number }
     {
@@ -118,9 +118,9 @@ impl Ruling {
 // A sine or a cosine, which is in ten-millionths, times a distance.
 fn product(sine: i64, distance: i64) -> i64
     requires sine_in { nat_abs sine ≤ 10 ^ 7 }
-    requires distance_in { nat_abs distance ≤ 2 ^ 21 }
+    requires distance_in { nat_abs distance ≤ 2 ^ 28 }
     ensures value { result ≡ sine *ℤ distance }
-    ensures most { nat_abs result ≤ 10 ^ 7 * 2 ^ 21 }
+    ensures most { nat_abs result ≤ 10 ^ 7 * 2 ^ 28 }
 {
     sine * distance
 }

@@ -5,8 +5,8 @@ use crate::lines::{Lines, Rule};
 use crate::ruling::Ruling;
 use std::alloc::{AllocError, Global};
 
-// No line below this one is crossed: -2^18.
-const LOWEST_LINE: i32 = -262_144;
+// No line below this one is crossed: -2^25.
+const LOWEST_LINE: i32 = -33_554_432;
 
 // The lines that are left.
 #[derive(Drop)]

@@ -63,10 +63,10 @@ fn shortened(t: i64, u: i64) -> Part
 // The same of one coordinate.
 fn along(a: i128, b: i128, t: i128, u: i128) -> i128
     requires part { IsPart t u }
-    requires a_in { nat_abs a ≤ 2 ^ 20 }
-    requires b_in { nat_abs b ≤ 2 ^ 20 }
+    requires a_in { nat_abs a ≤ 2 ^ 27 }
+    requires b_in { nat_abs b ≤ 2 ^ 27 }
     ensures value { result ≡ a +ℤ share_of_distance (b -ℤ a) t u }
-    ensures most { nat_abs result ≤ 2 ^ 20 }
+    ensures most { nat_abs result ≤ 2 ^ 27 }
 {
     a + divided((b - a) * t, u)
 }

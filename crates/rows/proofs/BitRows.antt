@@ -44,8 +44,8 @@ if_ok (Ok x) P Q h f = f x h
 if_ok (Err e) P Q h f = tt
 
 -- a page has few rows
-pub few_rows : (height resolution : ℕ) → height ≤ 65536 → resolution ≤ 1200 → cell_count height resolution ≤ MOST_PIXELS_A_SIDE
-few_rows height resolution h r = let m = mul-le height resolution 65536 1200 h r in omega (arith, m)
+pub few_rows : (height resolution : ℕ) → height ≤ 524288 → resolution ≤ 1200 → cell_count height resolution ≤ MOST_PIXELS_A_SIDE
+few_rows height resolution h r = let m = mul-le height resolution 524288 1200 h r in omega (arith, m)
 
 -- the n rows of s bytes each that an inker has in a band of these bits, by its painting p before it
 pub record IsNextBand (p : Painting) (rows : List (List ℕ)) (n s : ℕ) (bits : List ℕ) : Type 0 where

@@ -111,7 +111,7 @@ pub trait Bands<'a>: Sized {
         ensures height { height self.new ≡ height self.old }
         ensures writes { WritesRows (row_text self.old (G.reaches gauge.old)) first (next self.old) (next self.new) done
             (K.state sink.old) (K.state sink.new) result }
-        ensures small { IfOk result (λ bytes. bytes ≤ done + (next self.new - next self.old) * 4194304) }
+        ensures small { IfOk result (λ bytes. bytes ≤ done + (next self.new - next self.old) * 33554432) }
         ensures same { G.reaches gauge.new ≡ G.reaches gauge.old }
         ensures tests { G.count gauge.new + tests self.new ≤ G.count gauge.old + tests self.old };
 }

@@ -151,7 +151,7 @@ fn write_band<I: Inks, K: Sink>(
     requires room { All (λ row. room_of form (length row) ≤ length buffer.old) (rows_of_band band.now) }
     requires rows_in { first_of band.now + length (rows_of_band band.now) ≤ MOST_PIXELS_A_SIDE }
     requires done_in { done ≤ 2 ^ 62 }
-    ensures small { IfOk result (λ bytes. bytes ≤ done + length (rows_of_band band.now) * 4194304) }
+    ensures small { IfOk result (λ bytes. bytes ≤ done + length (rows_of_band band.now) * 33554432) }
     ensures rows { WritesCells form (I.inks inks.now) first (first_of band.now) (rows_of_band band.now) done
         (K.state sink.old) (K.state sink.new) result }
 {

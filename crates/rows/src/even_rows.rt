@@ -19,7 +19,8 @@ pub fn write_rows<K: Sink>(
 ) -> Result<u64, Broken>
     requires sinking { (K.state sink.old).faults < 2 ^ 64 - 1 }
     requires size_in { 0 < size }
-    requires few { length bytes.now ≤ 2 ^ 30 }
+    requires few { length bytes.now ≤ 2 ^ 36 }
+    requires tall { length bytes.now ≤ 2 ^ 30 * size }
     requires at_in { at ≤ 2 ^ 30 }
     requires done_in { done ≤ 2 ^ 62 }
     ensures rows { (form : Form) (inks : List Ink) (rows : List (List ℕ)) → AreEven form inks at rows size →

@@ -149,7 +149,7 @@ fn write_numbers<K: Sink>(
     requires small { All (λ number. number < 2 ^ bits_of_depth bytes.old.depth) numbers.now }
     requires rows_in { first_of band.now + length (rows_of_band band.now) ≤ MOST_PIXELS_A_SIDE }
     requires done_in { done ≤ 2 ^ 62 }
-    ensures few { IfOk result (λ n. n ≤ done + length (rows_of_band band.now) * 4194304) }
+    ensures few { IfOk result (λ n. n ≤ done + length (rows_of_band band.now) * 33554432) }
     ensures rows { (row : ℕ → List ℕ) → ((k : ℕ) → k < length (rows_of_band band.now) → row (first_of band.now + k)
         ≡ packed_samples bytes.old.depth (numbers_bytes bytes.old.depth bytes.old.columns)
         (map (number_of numbers.now) (get_or (rows_of_band band.now) k []))) →

@@ -148,7 +148,8 @@ fn put_rows<K: Sink>(
     requires sinking { (K.state sink.old).faults < 2 ^ 64 - 1 }
     requires some { 0 < rows.count }
     requires room { rows.count * (rows.stride + LONGEST_COMMAND) ≤ length text.old }
-    requires few { rows.count * (rows.stride + LONGEST_COMMAND) ≤ 2 ^ 30 }
+    requires few { rows.count * (rows.stride + LONGEST_COMMAND) ≤ 2 ^ 36 }
+    requires tall { rows.count ≤ 2 ^ 29 }
     requires at_in { at ≤ 2 ^ 30 }
     requires done_in { done ≤ 2 ^ 62 }
     ensures rows { (inks : List Ink) (cells : List (List ℕ)) → length cells ≡ rows.entry.count →

@@ -248,7 +248,7 @@ fn write_smoothed<K: Sink>(
     requires few { count ≤ 4096 }
     requires place { at + count ≤ MOST_PIXELS_A_SIDE }
     requires done_in { done ≤ 2 ^ 62 }
-    ensures few { IfOk result (λ n. n ≤ done + count * 4194304) }
+    ensures few { IfOk result (λ n. n ≤ done + count * 33554432) }
     ensures rows { (row : ℕ → List ℕ) → ((k : ℕ) → k < count → row (at + k) ≡ layout_bytes smoother.old.layout
         (map (smoothed (times_of smoother.old.pixels) (colours_of_cells (inks_held smoother.old.inks) (rows_of_band band.now)) k)
         (range_with_len 0 (width_of smoother.old.pixels)))) →

@@ -83,7 +83,7 @@ pub fn write_left<'a, B: Bands<'a>, G: Gauge, K: Sink, W: Watcher>(
     ensures writes { WritesRows (B.row_text bands.old (G.reaches gauge.old)) (B.next bands.old) (B.next bands.old)
         (B.end bands.old) done (K.state sink.old) (K.state sink.new) result }
     ensures told { IsToldOfRows W.hears (B.end bands.old - B.next bands.old) watcher.old watcher.new result }
-    ensures small { IfOk result (λ n. n ≤ 2 ^ 40) }
+    ensures small { IfOk result (λ n. n ≤ 2 ^ 45) }
 {
     let first = bands.next_row();
     let end = bands.end_row();

@@ -1,5 +1,5 @@
 -- The strip along a stroke's line: bounds by division, and what lies outside them.
-use Rattle.std.proofs.Common.{zero, suc, ◌≡◌, ℕ, ◌+◌, ◌-◌, ◌*◌, ◌/◌, ◌<◌, ◌≤◌, inl, inr, refl, sym, subst, ap, ap₂, ◌∙◌, arith, ℤ, pos, negsuc, ◌+ℤ◌, ◌-ℤ◌, ◌*ℤ◌, ◌≤ℤ◌, ◌<ℤ◌, neg_ℤ, nat_abs, true, false, int_le, cond, min}
+use Rattle.std.proofs.Common.{zero, suc, ◌≡◌, ℕ, ◌+◌, ◌-◌, ◌*◌, ◌/◌, ◌<◌, ◌≤◌, ◌^◌, inl, inr, refl, sym, subst, ap, ap₂, ◌∙◌, arith, ℤ, pos, negsuc, ◌+ℤ◌, ◌-ℤ◌, ◌*ℤ◌, ◌≤ℤ◌, ◌<ℤ◌, neg_ℤ, nat_abs, true, false, int_le, cond, min}
 use Rattle.std.proofs.lemmas.Int.{ints}
 use Rattle.std.specs.Int.Signed.{le_z, lt_z}
 use Rattle.std.proofs.lemmas.Bool.{cases_Bool, cases_lt}
@@ -152,6 +152,16 @@ outside_before t start k i p u = elim (cases_Bool (is_met t start i)) [
 pub outside_after : (t : Trace) (start : Vector) (k : ℤ) (i : ℕ) → Strip t start k → t.slope.most <ℤ (pos (i * t.slope.step) -ℤ k) → is_met t start i ≡ false
 outside_after t start k i p u = elim (cases_Bool (is_met t start i)) [
   | inl e ↦ (let q = (sides t start k i p e).0 in absurd (omega (arith, ints, q, u)))
+  | inr e ↦ e
+]
+
+-- where the number is greater than what the columns can lead to, no pixel is met
+pub far_outside : (t : Trace) (start : Vector) (k : ℤ) (i : ℕ) → Strip t start k → nat_abs t.course.y ≤ 2 ^ 28 → nat_abs t.slope.most ≤ 2 ^ 54 → i < 2 ^ 20
+    → 2 ^ 63 - 2 ^ 55 < nat_abs k → is_met t start i ≡ false
+far_outside t start k i p y m l h = elim (cases_Bool (is_met t start i)) [
+  | inl e ↦ (let q = sides t start k i p e in
+      let s : i * t.slope.step ≤ 2 ^ 20 * (32512 * 2 ^ 28) = mul-le i t.slope.step (2 ^ 20) (32512 * 2 ^ 28) (omega (arith, l)) (omega (arith, y, p.slope.step)) in
+      absurd (omega (arith, ints, q.0, q.1, s, h, m)))
   | inr e ↦ e
 ]
 

@@ -36,8 +36,8 @@ pub record IsSound (scene : Scene) (next end band painted : ℕ) (heads links : 
   pub canvas : IsSoundCanvas
   -- there is room for each area
   pub roomy : HasRoomForAll scene.strokes.now (areas_in scene.areas) sweep
-  -- there are chains for all strokes and all bands; a page has at most 77,405 rows, so 2^17 bands are enough
+  -- there are chains for all strokes and all bands; a page has at most 619,238 rows, so 2^20 bands are enough
   pub slots : length links ≡ length scene.strokes.now + 1
-  pub bands_few : length heads ≤ 131072
+  pub bands_few : length heads ≤ 1048576
   pub bands_enough : rows_of scene.page scene.dots ≤ scene.first_row + length heads * scene.band_rows
   pub linked : AreChained scene band heads links

@@ -13,10 +13,10 @@ fills area row column = is_filled area.window (record { strokes = area.edges.now
 
 -- the corners of a window are near the page
 pub record IsNear (w : Window) : Type 0 where
-  pub x0 : nat_abs w.x0 ≤ 2 ^ 20
-  pub y0 : nat_abs w.y0 ≤ 2 ^ 20
-  pub x1 : nat_abs w.x1 ≤ 2 ^ 20
-  pub y1 : nat_abs w.y1 ≤ 2 ^ 20
+  pub x0 : nat_abs w.x0 ≤ 2 ^ 23
+  pub y0 : nat_abs w.y0 ≤ 2 ^ 23
+  pub x1 : nat_abs w.x1 ≤ 2 ^ 23
+  pub y1 : nat_abs w.y1 ≤ 2 ^ 23
 
 -- how high the centres of a row are
 abbrev pub height_of : PlacedArea → ℕ → ℤ

@@ -12,7 +12,8 @@ ghost use Rattle.stroke_raster.specs.declared.trace.Trace.{Trace};
 ghost use Rattle.stroke_raster.specs.Edges.{AreEdges, AreFitted, IsBeside, IsClear, IsClearSpan, IsEdge, IsPlace};
 
 use crate::extent::{Sides, places_between};
-use crate::pixel::{centre_of, cross_product, drawn_width_of, squared_length, way_between};
+use crate::far::{wide_cross, wide_turned};
+use crate::pixel::{centre_of, drawn_width_of, squared_length, top_of, way_between};
 use crate::run::run;
 use crate::strip::{Span, turned};
 use crate::trace::Trace;
@@ -121,7 +122,7 @@ fn beside_sides(trace: &Trace<'_>, page: &Page) -> Sides
     ensures beside { (row : ℕ) → result.low ≤ℤ pos ((2 * row + 1) * 16256) → pos ((2 * row + 1) * 16256) ≤ℤ result.high →
         IsBeside trace.now page.now row }
 {
-    let top = 2 * i64::from(16 * page.height * trace.dots.resolution);
+    let top = 2 * top_of(page, trace.dots);
     let first = top - 2 * trace.first.y;
     let last = first - 2 * trace.scaled_course.y;
     let width = i64::from(drawn_width_of(trace.stroke, trace.dots) + 1);
@@ -155,10 +156,10 @@ fn edges_in(trace: &Trace<'_>, page: &Page, rows: Span, from: u32) -> Option<Edg
     let most = slope.most.unsigned_abs();
     let inner = u64::from(drawn_width_of(trace.stroke, trace.dots)) * narrow;
     let start = way_between(trace.first, centre_of(page, trace.dots, rows.low, from));
-    let beside = turned(2 * cross_product(trace.course, start), trace.course.y);
+    let beside = wide_turned(2 * wide_cross(trace.course, start), trace.course.y);
     let drift = turned(trace.course.x, trace.course.y);
     let slower = parts_of(32512 * drift.unsigned_abs(), slope.step);
-    let end = place_of(beside + slope.most, slope.step)?;
+    let end = place_of(beside + i128::from(slope.most), slope.step)?;
     let falls = 0 < drift;
     let moves = Moves {
         gap: parts_of(most.saturating_sub(inner), slope.step) + 1,
@@ -198,13 +199,13 @@ fn rounded(slower: u128, falls: bool) -> u128
 
 // The place of a number divided by a step, in parts from 2^30 columns before the first on, if it is not
 // farther to the left.
-fn place_of(z: i64, step: u64) -> Option<u128>
-    requires z_in { nat_abs z ≤ 2 ^ 58 }
+fn place_of(z: i128, step: u64) -> Option<u128>
+    requires z_in { nat_abs z ≤ 2 ^ 71 }
     requires step_in { 0 < step }
-    requires step_small { step ≤ 2 ^ 40 }
+    requires step_small { step ≤ 2 ^ 43 }
     ensures { IfSome result (λ at. IsPlace z step at) }
 {
-    let edge = 4_294_967_296 * i128::from(z) + 4_611_686_018_427_387_904 * i128::from(step);
+    let edge = 4_294_967_296 * z + 4_611_686_018_427_387_904 * i128::from(step);
     if edge < 0 {
         return None;
     }

@@ -5,7 +5,7 @@ ghost use Rattle.plot_page.specs.Resolutions.{columns_of, rows_of};
 ghost use Rattle.stroke_raster.specs.Extents.{first_place, end_place, first_row_of, end_row_of, HoldRows, HoldColumns};
 ghost use Rattle.stroke_raster.specs.Extents.{AreBoxed};
 
-use crate::pixel::drawn_width_of;
+use crate::pixel::{drawn_width_of, top_of};
 use crate::strip::Span;
 use plot_page::{Dots, Page, Stroke};
 
@@ -53,7 +53,7 @@ pub fn extent_of(stroke: &Stroke, page: &Page, dots: Dots) -> Extent
     let window = stroke.window;
     let x = sides_of(window.x0, window.x1, stroke.ax, stroke.bx, r, d);
     let y = sides_of(window.y0, window.y1, stroke.ay, stroke.by, r, d);
-    let top = 2 * i64::from(16 * page.height * r);
+    let top = 2 * top_of(page, dots);
     Extent {
         rows: places_between(top - y.high, top - y.low, dots.rows(page)),
         columns: places_between(x.low, x.high, dots.columns(page)),

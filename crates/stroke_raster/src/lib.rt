@@ -1,4 +1,7 @@
 //! From strokes to pixels: which stroke each pixel of a page shows.
+//!
+//! Each test is a comparison of whole numbers, and so exact, however far a stroke leads. Those of a stroke of at
+//! most 3.2 m in x and in y are made in 64 bits, but for two comparisons; those of a longer one in 128 bits.
 #![tactic(auto)]
 
 mod band;
@@ -9,6 +12,7 @@ mod cell_painter;
 mod cells;
 mod edges;
 mod extent;
+mod far;
 mod fill;
 mod gauge;
 mod ink;

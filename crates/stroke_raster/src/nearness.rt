@@ -1,10 +1,11 @@
 //! The pixel test: whether a stroke covers the centre of a pixel.
-ghost use Rattle.std.specs.Prelude.{◌≡◌, ◌<◌, ◌^◌, cond};
+ghost use Rattle.std.specs.Prelude.{◌≡◌, ◌<◌, ◌^◌, cond, false};
 ghost use Rattle.stroke_raster.specs.Bounds.{Within};
 ghost use Rattle.stroke_raster.specs.Covers.{covers};
 ghost use Rattle.plot_page.specs.Resolutions.{columns_of, rows_of};
 ghost use Rattle.stroke_raster.specs.Traces.{is_near};
 
+use crate::far::far_meets;
 use crate::pixel::{centre_of, dot_product, is_beside, is_in_window, is_short, way_between};
 use crate::trace::{Trace, trace_of};
 use crate::vector::Vector;
@@ -21,14 +22,28 @@ pub fn near(stroke: &Stroke, page: &Page, dots: Dots, row: u32, column: u32) -> 
 {
     let place = centre_of(page, dots, row, column);
     let trace = trace_of(stroke, dots, true);
-    is_in_window(stroke, dots, place) && meets(&trace, way_between(trace.first, place))
+    is_in_window(stroke, dots, place) && meets_any(&trace, way_between(trace.first, place))
 }
 
-/// Whether the place to which `w` leads from the stroke's first end is within half of the drawn
-/// width of the stroke.
+// The answer of `meets`, also for a far stroke.
+#[inline(always)]
+fn meets_any(trace: &Trace<'_>, w: Vector) -> bool
+    requires { Within (2 ^ 39) w }
+    ensures { result ≡ is_near trace.now w }
+{
+    if trace.is_far {
+        far_meets(trace, w)
+    } else {
+        meets(trace, w)
+    }
+}
+
+/// Whether the place to which `w` leads from the first end of a stroke that is not far is within half of
+/// the drawn width of the stroke.
 #[inline(always)]
 pub fn meets(trace: &Trace<'_>, w: Vector) -> bool
-    requires { Within (2 ^ 33) w }
+    requires near { trace.now.is_far ≡ false }
+    requires w_in { Within (2 ^ 39) w }
     ensures { result ≡ is_near trace.now w }
 {
     let along = dot_product(trace.course, w);
@@ -44,7 +59,8 @@ pub fn meets(trace: &Trace<'_>, w: Vector) -> bool
 /// The answer of `meets`, from all of its tests, without a branch that the processor might guess wrong.
 #[inline(always)]
 pub fn meets_evenly(trace: &Trace<'_>, w: Vector) -> bool
-    requires { Within (2 ^ 33) w }
+    requires near { trace.now.is_far ≡ false }
+    requires w_in { Within (2 ^ 39) w }
     ensures { result ≡ is_near trace.now w }
 {
     let along = dot_product(trace.course, w);

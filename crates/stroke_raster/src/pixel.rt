@@ -1,7 +1,8 @@
 //! The places of pixels and of strokes, and the comparisons between them.
 //!
 //! Places are in grains divided by the resolution, where all of them are whole. The ways along strokes
-//! stay in grains, so that all products but those of two comparisons fit 64 bits.
+//! stay in grains, so that all products but those of two comparisons fit 64 bits, unless a stroke is far:
+//! then those of its other tests need 128 bits too, and `far` has them.
 ghost use Rattle.std.specs.Prelude.{◌≡◌, ◌≤◌, ◌<◌, ◌^◌, ◌*◌, pos, nat_abs, ◌*ℤ◌, ◌&&◌, int_le, neg_ℤ};
 ghost use Rattle.stroke_raster.specs.Bounds.{Within};
 ghost use Rattle.stroke_raster.specs.Gap.{way, scaled, dot, cross, gap_met};
@@ -23,13 +24,22 @@ pub fn centre_of(page: &Page, dots: Dots, row: u32, column: u32) -> Vector
     requires row_in { row < rows_of page.now dots }
     requires column_in { column ≤ columns_of page.now dots }
     ensures value { result ≡ centre page.now.height dots.resolution row column }
-    ensures small { Within (2 ^ 31) result }
+    ensures small { Within (2 ^ 34) result }
 {
     let _width = page.width;
     Vector {
-        x: i64::from((2 * column + 1) * 8128),
-        y: i64::from(16 * page.height * dots.resolution) - i64::from((2 * row + 1) * 8128),
+        x: i64::from(2 * column + 1) * 8128,
+        y: top_of(page, dots) - i64::from(2 * row + 1) * 8128,
     }
+}
+
+/// How high the page's upper edge is.
+#[inline(always)]
+pub fn top_of(page: &Page, dots: Dots) -> i64
+    ensures value { result ≡ pos (16 * page.now.height * dots.resolution) }
+    ensures small { nat_abs result ≤ 2 ^ 34 }
+{
+    i64::from(16 * page.height) * i64::from(dots.resolution)
 }
 
 /// Whether the place lies in the stroke's window.
@@ -63,7 +73,7 @@ pub fn drawn_width_of(stroke: &Stroke, dots: Dots) -> u32
 #[inline(always)]
 pub fn first_end_of(stroke: &Stroke) -> Vector
     ensures value { result ≡ first_end stroke.now }
-    ensures small { Within (2 ^ 20) result }
+    ensures small { Within (2 ^ 27) result }
 {
     Vector {
         x: i64::from(stroke.ax),
@@ -74,7 +84,7 @@ pub fn first_end_of(stroke: &Stroke) -> Vector
 #[inline(always)]
 pub fn last_end_of(stroke: &Stroke) -> Vector
     ensures value { result ≡ last_end stroke.now }
-    ensures small { Within (2 ^ 20) result }
+    ensures small { Within (2 ^ 27) result }
 {
     Vector {
         x: i64::from(stroke.bx),
@@ -98,7 +108,7 @@ pub fn way_between(from: Vector, to: Vector) -> Vector
 #[inline(always)]
 pub fn times(k: u32, v: Vector) -> Vector
     requires k_in { k ≤ 1200 }
-    requires v_in { Within (2 ^ 21) v }
+    requires v_in { Within (2 ^ 28) v }
     ensures { result ≡ scaled (pos k) v }
 {
     Vector {
@@ -110,18 +120,18 @@ pub fn times(k: u32, v: Vector) -> Vector
 #[inline(always)]
 pub fn dot_product(v: Vector, w: Vector) -> i64
     requires v_in { Within (2 ^ 21) v }
-    requires w_in { Within (2 ^ 33) w }
+    requires w_in { Within (2 ^ 39) w }
     ensures value { result ≡ dot v w }
-    ensures small { nat_abs result ≤ 2 ^ 55 }
+    ensures small { nat_abs result ≤ 2 ^ 61 }
 {
     v.x * w.x + v.y * w.y
 }
 
 #[inline(always)]
 pub fn squared_length(v: Vector) -> i64
-    requires { Within (2 ^ 21) v }
+    requires { Within (2 ^ 28) v }
     ensures value { result ≡ dot v v }
-    ensures small { nat_abs result ≤ 2 ^ 43 }
+    ensures small { nat_abs result ≤ 2 ^ 57 }
 {
     v.x * v.x + v.y * v.y
 }
@@ -129,9 +139,9 @@ pub fn squared_length(v: Vector) -> i64
 #[inline(always)]
 pub fn cross_product(v: Vector, w: Vector) -> i64
     requires v_in { Within (2 ^ 21) v }
-    requires w_in { Within (2 ^ 33) w }
+    requires w_in { Within (2 ^ 39) w }
     ensures value { result ≡ cross v w }
-    ensures small { nat_abs result ≤ 2 ^ 55 }
+    ensures small { nat_abs result ≤ 2 ^ 61 }
 {
     v.x * w.y - v.y * w.x
 }
@@ -152,7 +162,7 @@ pub fn is_short(w: Vector, reach: i128) -> bool
 #[inline(always)]
 pub fn is_beside(v: Vector, w: Vector, limit: i128) -> bool
     requires v_in { Within (2 ^ 21) v }
-    requires w_in { Within (2 ^ 33) w }
+    requires w_in { Within (2 ^ 39) w }
     ensures { result ≡ int_le (pos 4 *ℤ (cross v w *ℤ cross v w)) limit }
 {
     let beside = i128::from(2 * cross_product(v, w));

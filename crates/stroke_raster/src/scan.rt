@@ -86,7 +86,7 @@ fn has_square_in(z: i64, limit: i64) -> bool
 // Whether a number is above 0 and at most `past`.
 #[inline(always)]
 fn is_between(along: i64, past: u32) -> bool
-    requires { nat_abs along ≤ 2 ^ 55 }
+    requires { nat_abs along ≤ 2 ^ 61 }
     ensures { result ≡ int_le (pos 1) along && int_le along (pos past) }
 {
     let before = along - 1;
@@ -105,7 +105,7 @@ fn any_of(first: bool, last: bool, is_between: bool, line: bool) -> bool
 #[inline(always)]
 fn mask_of(short: &Short, start: Vector, many: u32) -> u64
     requires few { many ≤ FEW }
-    requires start_in { Within (2 ^ 32) start }
+    requires start_in { Within (2 ^ 38) start }
     requires near { (i : ℕ) → i < many → Within 393216 (rightward start i) }
     ensures small { result < 2 ^ many }
     ensures bits { AreMasked short.now start many result }

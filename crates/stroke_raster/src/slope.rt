@@ -37,7 +37,7 @@ pub struct Inverse {
 /// which saves two divisions.
 #[inline(always)]
 pub fn slope_of(course: Vector, width: u32, is_rough: bool) -> Slope
-    requires course_in { Within (2 ^ 21) course }
+    requires course_in { Within (2 ^ 28) course }
     requires width_in { width ≤ 2 ^ 24 }
     ensures { IsSlope course width result }
 {
@@ -55,10 +55,10 @@ pub fn slope_of(course: Vector, width: u32, is_rough: bool) -> Slope
 // The slope, by a length and a reciprocal of the step.
 #[inline(always)]
 fn slope_by(course: Vector, width: u32, length: u32, inverse: Inverse) -> Slope
-    requires course_in { Within (2 ^ 21) course }
+    requires course_in { Within (2 ^ 28) course }
     requires width_in { width ≤ 2 ^ 24 }
     requires enough { dot course course ≤ℤ pos (length * length) }
-    requires length_in { length ≤ 2 ^ 22 }
+    requires length_in { length ≤ 2 ^ 30 }
     requires inverse { IsInverse (32512 * nat_abs course.y) inverse }
     ensures { IsSlope course width result }
 {
@@ -74,7 +74,7 @@ fn slope_by(course: Vector, width: u32, length: u32, inverse: Inverse) -> Slope
 // plotter units may be many, those of others are few, and 32 bits are divided faster.
 #[inline(always)]
 fn inverse_of(course: Vector) -> Inverse
-    requires { Within (2 ^ 21) course }
+    requires { Within (2 ^ 28) course }
     ensures { IsInverse (32512 * nat_abs course.y) result }
 {
     let rise = course.y.unsigned_abs() as u32;
@@ -95,9 +95,9 @@ fn inverse_of(course: Vector) -> Inverse
 // A whole number that is at least the length of the way.
 #[inline(always)]
 fn length_at_most(way: Vector) -> u32
-    requires { Within (2 ^ 21) way }
+    requires { Within (2 ^ 28) way }
     ensures enough { dot way way ≤ℤ pos (result * result) }
-    ensures small { result ≤ 2 ^ 22 }
+    ensures small { result ≤ 2 ^ 30 }
 {
     let x = way.x.unsigned_abs();
     let y = way.y.unsigned_abs();
@@ -110,7 +110,7 @@ fn length_at_most(way: Vector) -> u32
 // a long stroke crosses many rows, in which a strip too wide costs more than a division.
 #[inline(always)]
 fn root_at_most(square: u64, guess: u64) -> u64
-    requires square_in { square ≤ 2 ^ 50 }
+    requires square_in { square ≤ 2 ^ 58 }
     requires guess_in { guess ≤ 2 ^ 50 }
     requires some { 0 < guess }
     ensures { square ≤ result * result }
@@ -138,9 +138,9 @@ fn nearer(square: u64, guess: u64) -> u64
 // The sum of the sides of a way, which is at least its length.
 #[inline(always)]
 fn sum_of_sides(way: Vector) -> u32
-    requires { Within (2 ^ 21) way }
+    requires { Within (2 ^ 28) way }
     ensures enough { dot way way ≤ℤ pos (result * result) }
-    ensures small { result ≤ 2 ^ 22 }
+    ensures small { result ≤ 2 ^ 30 }
 {
     (way.x.unsigned_abs() + way.y.unsigned_abs()) as u32
 }

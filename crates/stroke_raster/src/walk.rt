@@ -236,7 +236,7 @@ fn link(heads: &mut [u32], links: &mut [u32], band: u32, slot: u32)
 /// Chains the strokes by the bands in which they begin.
 pub fn chain(scene: &Scene<'_>, heads: &mut [u32], links: &mut [u32])
     requires slots { length links.old ≡ length scene.now.strokes.now + 1 }
-    requires bands { length heads.old ≤ 131072 }
+    requires bands { length heads.old ≤ 1048576 }
     requires none { (b : ℕ) → b < length heads.old → get_or heads.old b 0 ≡ length scene.now.strokes.now + 1 }
     requires zero { get_or links.old 0 0 ≡ length scene.now.strokes.now + 1 }
     ensures linked { AreChained scene.now 0 heads.new links.new }

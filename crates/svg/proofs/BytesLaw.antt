@@ -40,14 +40,15 @@ use Rattle.svg.proofs.PathReads.{AreSmall, IsSmall, IsSmallCommand, IsSmallPath}
 less : (a b : ℤ) (n m : ℕ) → nat_abs a ≤ n → nat_abs b ≤ m → nat_abs (a -ℤ b) ≤ n + m
 less a b n m h k = omega (arith, ints, h, k)
 
--- a place on a page, or within it by twice its size
+-- a place of a document
 abbrev IsNear : Place → Type 0
-IsNear p = (nat_abs p.x ≤ 2097152) × (nat_abs p.y ≤ 2097152)
+IsNear p = (nat_abs p.x ≤ 268435456) × (nat_abs p.y ≤ 268435456)
 
-turned_near : (page : Page) (y : ℤ) → nat_abs y ≤ 1048576 → nat_abs (turned page y) ≤ 2097152
+turned_near : (page : Page) (y : ℤ) → nat_abs y ≤ 134217712 → nat_abs (turned page y) ≤ 268435456
 turned_near page y h =
     let high = page.height_in.1 in
-    less (pos (16 * page.height)) y 1048576 1048576 (omega (arith, ints, high)) h
+    let near = less (pos (16 * page.height)) y 8388608 134217712 (omega (arith, ints, high)) h in
+    omega (arith, near)
 
 start_near : (page : Page) (s : Segment) → IsInRange s → IsNear (start_of page s)
 start_near page s h = (omega (arith, h.ax), turned_near page s.ay h.ay)
@@ -60,8 +61,8 @@ small_place p h = record { x = omega (arith, h.0); y = omega (arith, h.1) }
 
 small_offset : (p q : Place) → IsNear p → IsNear q → IsSmall (offset p q)
 small_offset p q h k =
-    let x = less q.x p.x 2097152 2097152 k.0 h.0 in
-    let y = less q.y p.y 2097152 2097152 k.1 h.1 in
+    let x = less q.x p.x 268435456 268435456 k.0 h.0 in
+    let y = less q.y p.y 268435456 268435456 k.1 h.1 in
     record { x = omega (arith, x); y = omega (arith, y) }
 
 either_small : (b : Bool) (c d : Command) → IsSmallCommand c → IsSmallCommand d → IsSmallCommand (cond b c d)
@@ -99,8 +100,8 @@ small_run page rule s ss _ h k = record {
 small_rectangle : (page : Page) (s : Segment) → IsInRange s → IsSmallRectangle (rectangle_of page s.window)
 small_rectangle page s h =
     let y = turned_near page s.window.y1 h.y1 in
-    let width = less s.window.x1 s.window.x0 1048576 1048576 h.x1 h.x0 in
-    let height = less s.window.y1 s.window.y0 1048576 1048576 h.y1 h.y0 in
+    let width = less s.window.x1 s.window.x0 134217712 134217712 h.x1 h.x0 in
+    let height = less s.window.y1 s.window.y0 134217712 134217712 h.y1 h.y0 in
     record { x = omega (arith, h.x0); y = omega (arith, y); width = omega (arith, width); height = omega (arith, height) }
 
 insert_step : (o : Ordering) (r x : Rectangle) (rs ts : List Rectangle) → IsSmallRectangle r → AreSmallRectangles (x ∷ rs) → AreSmallRectangles ts → AreSmallRectangles (match_ordering o (r ∷ x ∷ rs) (x ∷ rs) (x ∷ ts))

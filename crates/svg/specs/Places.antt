@@ -28,9 +28,9 @@ offset from to = record { x = to.x -ℤ from.x; y = to.y -ℤ from.y }
 abbrev pub moved : Place → Place → Place
 moved from by = record { x = from.x +ℤ by.x; y = from.y +ℤ by.y }
 
--- within twice the size of the greatest page
+-- within 2^28 grains of the corner
 abbrev pub IsNear : Place → Type 0
-IsNear p = (nat_abs p.x ≤ 2097152) × (nat_abs p.y ≤ 2097152)
+IsNear p = (nat_abs p.x ≤ 268435456) × (nat_abs p.y ≤ 268435456)
 
 -- a window as a rectangle
 abbrev pub rectangle_of : Page → Window → Rectangle

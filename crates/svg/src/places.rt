@@ -22,17 +22,17 @@ pub(crate) struct Rectangle {
 
 // A y of the page, from its upper edge downward.
 fn turned(page: &Page, y: i32) -> i32
-    requires { nat_abs y ≤ 1048576 }
+    requires { nat_abs y ≤ 134217712 }
     ensures value { result ≡ turned page.now y }
-    ensures near { nat_abs result ≤ 2097152 }
+    ensures near { nat_abs result ≤ 268435456 }
 {
     (16 * page.height) as i32 - y
 }
 
 // A place of the page.
 fn place_of(page: &Page, x: i32, y: i32) -> Place
-    requires x { nat_abs x ≤ 1048576 }
-    requires y { nat_abs y ≤ 1048576 }
+    requires x { nat_abs x ≤ 134217712 }
+    requires y { nat_abs y ≤ 134217712 }
     ensures value { result ≡ place_of page.now x y }
     ensures near { IsNear result }
 {
@@ -72,8 +72,8 @@ pub(crate) fn rectangle_of(page: &Page, stroke: &Stroke) -> Rectangle
 
 // How far one place is from another.
 fn distance(from: i32, to: i32) -> i32
-    requires from { nat_abs from ≤ 2097152 }
-    requires to { nat_abs to ≤ 2097152 }
+    requires from { nat_abs from ≤ 268435456 }
+    requires to { nat_abs to ≤ 268435456 }
     ensures { result ≡ to -ℤ from }
 {
     to - from

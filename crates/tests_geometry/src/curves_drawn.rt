@@ -11,11 +11,11 @@ use std::process::Abort;
 use std::test::Fail;
 
 // The farthest coordinate of a place from 0.
-const FAR: i64 = 1_048_576;
+const FAR: i64 = 134_217_712;
 
 // A place in range.
 fn place(x: Option<&str>, y: Option<&str>) -> Result<Spot, Fail>
-    ensures { IfOk result (IsWithin (2 ^ 20)) }
+    ensures { IfOk result (IsWithin (2 ^ 27)) }
 {
     let (x, y) = (number_of(x), number_of(y));
     if x < -FAR || FAR < x || y < -FAR || FAR < y {
@@ -119,7 +119,7 @@ const CURVES: &str = "\
 0 0 1000 3000 -2000 500 4001 -3 1 2 16 31 32: 32 places; 82 265; 144 500; 125 1312; 3464 50; 4001 -3
 0 0 0 0 0 0 1024 0 8: 8 places; 1024 0
 0 0 0 0 0 0 1025 0 16: 16 places; 1025 0
--1048576 0 1048576 0 -1048576 0 1048576 0 128: 256 places; 0 0
+-134217712 0 134217712 0 -134217712 0 134217712 0 128: 256 places; 0 0
 ";
 
 #[test]

@@ -109,3 +109,47 @@ fn ranges_of_strokes(rt: HostRuntime) {
     };
     assert!(rt; is_stroke(1, 224, narrow, [0, 0], [1024, 1024]));
 }
+
+// Whether a red stroke of any plot can go from one place to another. This promises nothing: a test looks at the answer.
+fn is_far_stroke(pen: u8, width: u32, window: Window, from: [i32; 2], to: [i32; 2]) -> bool {
+    Stroke::far(pen, RED, width, window, from[0], from[1], to[0], to[1]).is_some()
+}
+
+#[test]
+fn ranges_of_far_strokes(rt: HostRuntime) {
+    let far = 134_217_712;
+    let long = Window {
+        x0: 0,
+        y0: 0,
+        x1: 8_388_608,
+        y1: 8_388_608,
+    };
+    let low = Window { y0: -1, ..long };
+    let high = Window {
+        x1: 8_388_609,
+        ..long
+    };
+    let found = [
+        is_far_stroke(0, 224, long, [0, 0], [1, 1]),
+        is_far_stroke(1, 12_801, long, [0, 0], [1, 1]),
+        is_far_stroke(1, 224, low, [0, 0], [1, 1]),
+        is_far_stroke(1, 224, high, [0, 0], [1, 1]),
+        is_far_stroke(1, 224, long, [-far - 1, 0], [1, 1]),
+        is_far_stroke(1, 224, long, [0, 0], [1, far + 1]),
+    ];
+    assert_eq!(rt; found, [false; 6]);
+    assert!(rt; is_far_stroke(255, 12_800, long, [-far, far], [far, -far]));
+}
+
+#[test]
+fn rolls(rt: HostRuntime) {
+    let most = 524_288;
+    let found = [
+        Page::roll(63, 64, 0, 0).is_some(),
+        Page::roll(64, most + 1, 0, 0).is_some(),
+        Page::roll(64, 64, 65_537, 0).is_some(),
+        Page::roll(64, 64, 0, 65_537).is_some(),
+        Page::roll(64, most, 65_536, 65_536).is_some(),
+    ];
+    assert_eq!(rt; found, [false, false, false, false, true]);
+}

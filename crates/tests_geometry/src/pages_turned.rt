@@ -54,7 +54,7 @@ fn stroke(pen: u8, ends: [i32; 4]) -> Result<Stroke, Fail> {
         x1: 210,
         y1: 620,
     };
-    Ok(Stroke::new(pen, COLOUR, 40, window, ax, ay, bx, by).ok_or("no stroke")?)
+    Ok(Stroke::far(pen, COLOUR, 40, window, ax, ay, bx, by).ok_or("no stroke")?)
 }
 
 fn ends_of(stroke: &Stroke) -> [i32; 4] {
@@ -82,7 +82,7 @@ fn strokes_turned(rt: HostRuntime) -> Result<(), Fail> {
     for (turn, _, ends, corners) in TURNED {
         let mut strokes = [
             stroke(2, [100, 300, 100, 2000])?,
-            stroke(3, [0, 0, -1_048_576, -1_048_576])?,
+            stroke(3, [0, 0, -134_217_712, -134_217_712])?,
         ];
         if !are_turnable(&strokes, &pens, turn, &page) {
             return Err("strokes that cannot be turned".into());
@@ -94,7 +94,7 @@ fn strokes_turned(rt: HostRuntime) -> Result<(), Fail> {
             (ends, corners)
         );
         assert_eq!(rt; (turned.pen, turned.colour, turned.width), (2, COLOUR, 40));
-        assert_eq!(rt; ends_of(&other), [0, 0, -1_048_576, -1_048_576]);
+        assert_eq!(rt; ends_of(&other), [0, 0, -134_217_712, -134_217_712]);
         assert_eq!(rt; corners_of(other.window), [10, 20, 210, 620]);
     }
     Ok(())
@@ -102,11 +102,11 @@ fn strokes_turned(rt: HostRuntime) -> Result<(), Fail> {
 
 // Which turns a stroke to a place can take: of none, a quarter, a half and three quarters.
 const FAR: [([i32; 2], [bool; 4]); 5] = [
-    ([1_048_576, 1_048_576], [true; 4]),
-    ([0, -1_046_528], [true; 4]),
-    ([0, -1_046_529], [true, false, false, true]),
-    ([-1_047_552, 0], [true; 4]),
-    ([-1_047_553, 0], [true, true, false, false]),
+    ([134_217_712, 134_217_712], [true; 4]),
+    ([0, -134_215_664], [true; 4]),
+    ([0, -134_215_665], [true, false, false, true]),
+    ([-134_216_688, 0], [true; 4]),
+    ([-134_216_689, 0], [true, true, false, false]),
 ];
 
 #[test]
@@ -147,8 +147,8 @@ fn windows_over_the_edge(rt: HostRuntime) -> Result<(), Fail> {
     Ok(())
 }
 
-// A label of one letter, which is 32 grains wide and 48 high, at the lower left corner of the page; 1,048,576 grains left of it
-// it would end.
+// A label of one letter, which is 32 grains wide and 48 high, at the lower left corner of the page; 134,217,712 grains left of it
+// another one ends.
 fn label(alloc: Global) -> Result<Label, Fail> {
     let mut line = Line::new(alloc, Place { x: 0, y: 0 }, Place { x: 0, y: 48 });
     line.push(65, Place { x: 32, y: 0 })?;
@@ -156,7 +156,7 @@ fn label(alloc: Global) -> Result<Label, Fail> {
     far.push(
         66,
         Place {
-            x: -1_048_576,
+            x: -134_217_712,
             y: 6,
         },
     )?;
@@ -172,21 +172,21 @@ fn label(alloc: Global) -> Result<Label, Fail> {
 
 // Where the letter begins, where the next one would, and its top, after each turn; and where the far one ends.
 const LETTERS: [(Turn, [i32; 6], [i32; 2]); 4] = [
-    (Turn::None, [0, 0, 32, 0, 0, 48], [-1_048_576, 6]),
+    (Turn::None, [0, 0, 32, 0, 0, 48], [-134_217_712, 6]),
     (
         Turn::Quarter,
         [2048, 0, 2048, 32, 2000, 0],
-        [2042, -1_048_576],
+        [2042, -134_217_712],
     ),
     (
         Turn::Half,
         [1024, 2048, 992, 2048, 1024, 2000],
-        [1_048_576, 2042],
+        [134_217_712, 2042],
     ),
     (
         Turn::ThreeQuarters,
         [0, 1024, 0, 992, 48, 1024],
-        [6, 1_048_576],
+        [6, 134_217_712],
     ),
 ];
 

@@ -31,12 +31,12 @@ Asked 1 0 0 page 64 65536 10 20
 
 PS400;SP1;PU0,590;PD9,590;
 PS400,;SP1;PU0,590;PD9,590;
-PS400,65536.5;PS400;SP1;PU0,590;PD9,590;
+PS400,524288.5;PS400;SP1;PU0,590;PD9,590;
 Asked 1 1 0 page 400 600 10 20
 
 SP1;PD100,200;
 PS;SP1;PD100,200;
-PS63;PS0;PS-400;PS65536.5;PS400,8388608;PS400,%;P S400,300;SP1;PD100,200;
+PS63;PS0;PS-400;PS524288.5;PS400,8388608;PS400,%;P S400,300;SP1;PD100,200;
 PS\"400\";PS400\"PS400,300\";SP1;PD100,200;
 SP0;LBPS400,300;\x03SP1;PU0,0;PD100,200;
 Unasked 1 0 0 page 800 600 10 20
@@ -77,6 +77,38 @@ fn pages_that_plots_ask_for(rt: HostRuntime) -> Result<(), Fail> {
         }
     }
     assert_eq!(rt; found, 36);
+    Ok(())
+}
+
+// Only the profile full has pages that are longer than 65,536 units.
+#[test]
+fn rolls_that_plots_ask_for(rt: HostRuntime) -> Result<(), Fail> {
+    let full = Reading::Full {
+        sheet: 0,
+        encoding: Encoding::ByPlot,
+    };
+    let long = placed(rt.alloc(), full, "PS524288,65537;")?;
+    assert_eq!(rt; long.as_str(), "Asked 0 0 0 page 524288 65537 10 20");
+    let longer = placed(rt.alloc(), full, "PS524289,64;PS64,524288;")?;
+    assert_eq!(rt; longer.as_str(), "Asked 0 0 0 page 64 524288 10 20");
+    let core = placed(rt.alloc(), Reading::Core, "PS65537,64;PS64,65536;")?;
+    assert_eq!(rt; core.as_str(), "Asked 0 0 0 page 64 65536 10 20");
+    Ok(())
+}
+
+// A page of any size is fitted around a drawing in the profile full.
+#[test]
+fn rolls_around_drawings(rt: HostRuntime) -> Result<(), Fail> {
+    let full = Reading::Full {
+        sheet: 0,
+        encoding: Encoding::ByPlot,
+    };
+    let long = "SP1;PW0;PU-200000,0;PD200000,64;";
+    let answer = placed_on(rt.alloc(), &given()?, full, fitted(0), long)?;
+    assert_eq!(rt; answer.as_str(), "Fitted 1 0 0 page 400000 64 200000 0");
+    let plot = "SP1;PW0;PU-65000,0;PD65000,64;";
+    let answer = placed_on(rt.alloc(), &given()?, Reading::Core, fitted(0), plot)?;
+    assert_eq!(rt; answer.as_str(), "TooLarge 1 0 1 page 800 600 10 20");
     Ok(())
 }
 

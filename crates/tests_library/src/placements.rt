@@ -57,7 +57,7 @@ SP1;PW0;IW0,0,30,30;PU40,10;PD500,10;
 Blank 1 0 0 page 64 64 0 0
 
 SP1;PW0;IW0,0,30,30;PU10,10;PD65530,10;
-TooLarge 1 0 0 page 64 64 0 0
+Fitted 1 0 0 page 100 80 30 30
 ";
 
 // The page around the drawing, with a margin in millimetres.
@@ -226,9 +226,13 @@ PU70,0;RA200,100;
 Fitted 4 0 0 page 130 100 -70 0
 Given 4 4 0 page 64 64 0 0
 
-PU-60000,0;RA60000,64;
+PU-300000,0;RA300000,64;
 TooLarge 4 0 4 page 64 64 0 0
 Given 4 0 4 page 64 64 0 0
+
+SP1;PW0;IW5,0,30,30;PU30,10;PD-8388607,10;
+TooLarge 1 0 0 page 64 64 0 0
+Given 1 0 0 page 64 64 0 0
 
 PU70,0;RA200,100;PG;PU0,0;RA100,200;
 Fitted 4 0 0 page 130 100 -70 0
@@ -250,6 +254,6 @@ fn pages_around_areas(rt: HostRuntime) -> Result<(), Fail> {
         assert_eq!(rt; both.as_str(), wanted, "{plot}");
         found = found.saturating_add(1);
     }
-    assert_eq!(rt; found, 6);
+    assert_eq!(rt; found, 7);
     Ok(())
 }

@@ -5,6 +5,7 @@ use devices::{OverRead, OverWrite};
 use picture_job::{Job, PageChoice, Picture, Reading, RowChoice, Smoothing};
 use picture_out::Form;
 use plot_page::{Dots, Page, PenSet};
+use plotraster::Encoding;
 use std::alloc::Global;
 use std::test::Fail;
 use stroke_raster::Exact;
@@ -69,7 +70,10 @@ fn request<'a>(
     turn: Turn,
 ) -> Result<Request<'a>, Fail> {
     let setup = Setup {
-        reading: Reading::Core,
+        reading: Reading::Full {
+            sheet: 1,
+            encoding: Encoding::ByPlot,
+        },
         carousel,
         choice: PageChoice::GIVEN,
         turn,
@@ -117,9 +121,9 @@ fn can_be_turned(alloc: Global, plot: &[u8], turn: Turn) -> Result<bool, Fail> {
 // A line that would end too far right of the page, unless it is of another pen.
 #[test]
 fn lines_too_far_away(rt: HostRuntime) -> Result<(), Fail> {
-    let far = b"SP1;PU0,0;PD0,-65500;";
+    let far = b"SP1;PU0,0;PD0,-8388600;";
     assert!(rt; can_be_turned(rt.alloc(), far, Turn::None)?);
     assert!(rt; !can_be_turned(rt.alloc(), far, Turn::Quarter)?);
-    assert!(rt; can_be_turned(rt.alloc(), b"SP2;PU0,0;PD0,-65500;", Turn::Quarter)?);
+    assert!(rt; can_be_turned(rt.alloc(), b"SP2;PU0,0;PD0,-8388600;", Turn::Quarter)?);
     Ok(())
 }

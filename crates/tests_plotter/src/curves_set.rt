@@ -63,23 +63,23 @@ fn arcs_through_points(rt: HostRuntime) -> Result<(), Fail> {
 
 // Each point has to be in range, even if the pen does not come to it.
 const CURVES_OFF_RANGE: &str = "\
-PD;AT65537,0,65536,0;
+PD;AT8388607.9,0,65536,0;
 OffRange { at: 3 }
 
-PD;AT100,100,65536,65537;
+PD;AT100,100,65536,8388607.9;
 OffRange { at: 3 }
 
-BZ65537,0,8,4,8,0;
+BZ8388607.9,0,8,4,8,0;
 OffRange { at: 0 }
 
-BZ0,4,65537,4,8,0;
+BZ0,4,8388607.9,4,8,0;
 OffRange { at: 0 }
 
-BZ0,4,8,4,0,-65537;
+BZ0,4,8,4,0,-8388607.9;
 OffRange { at: 0 }
 
-AT0,1,65535,65535;AT65536,0,0,0;
-OffRange { at: 18 }";
+AT0,1,8388606,8388606;AT8388607,0,0,0;
+OffRange { at: 22 }";
 
 #[test]
 fn curves_off_range(rt: HostRuntime) -> Result<(), Fail> {

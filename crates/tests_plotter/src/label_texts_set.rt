@@ -105,11 +105,11 @@ fn moves_labels_to_another_page(rt: HostRuntime) -> Result<(), Fail> {
         labels.as_mut_slice(),
         Corner {
             x: 65_600,
-            y: -65_500,
+            y: -8_388_500,
         },
     );
     let told = labels_told(alloc, labels.as_slice())?;
-    let want = "0-5 LI -1048160,1048576 -1044512,1048576 -1048160,1048576;";
+    let want = "0-5 LI -1048160,134217712 -1044512,134217712 -1048160,134217712;";
     assert_eq!(rt; told.as_str(), want);
     Ok(())
 }

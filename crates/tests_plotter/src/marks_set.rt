@@ -78,16 +78,16 @@ fn texts_too_long(alloc: Global) -> Result<Vec<u8>, Fail> {
 }
 
 const TEXTS_OFF_RANGE: &str = "\
-DI1,1;PU65000,65000;LBLLLLLLLLLL\x03
-OffRange { at: 20 }
+DI1,1;PU8388000,8388000;LBLLLLLLLLLL\x03
+OffRange { at: 24 }
 
 // a symbol of pen 0, too
-SP0;SI10,10;SM*;PU65536,0;
+SP0;SI10,10;SM*;PU8388607,0;
 OffRange { at: 16 }
 
 // the next line
-PU0,-65400;CP;
-OffRange { at: 11 }";
+PU0,-8388600;CP;
+OffRange { at: 13 }";
 
 #[test]
 fn texts_off_range(rt: HostRuntime) -> Result<(), Fail> {

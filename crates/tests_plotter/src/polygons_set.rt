@@ -177,23 +177,23 @@ fn fills_and_wedges(rt: HostRuntime) -> Result<(), Fail> {
 
 // Plots, and what they are refused for: a place out of range, or too many strokes with the work that counts.
 const REFUSALS: &str = "\
-RA65537,0;
+RA8388607.9,0;
 OffRange { at: 0 }
 
-PU1,1;WG65536,0,90;
+PU1,1;WG8388607,0,90;
 OffRange { at: 6 }
 
-EW65537,0,90;
+EW8388607.9,0,90;
 OffRange { at: 0 }
 
-AC0,65537;
+AC0,8388607.9;
 OffRange { at: 0 }
 
-PM0;PD65537,0;
+PM0;PD8388607.9,0;
 OffRange { at: 4 }
 
-PM0;CI65536,1;PU1,0;CI65536;
-OffRange { at: 20 }";
+PM0;CI8388607,1;PU1,0;CI8388607;
+OffRange { at: 22 }";
 
 #[test]
 fn refusals_of_polygons(rt: HostRuntime) -> Result<(), Fail> {

@@ -112,21 +112,30 @@ fn in_a_folder(rt: HostRuntime) -> Result<(), Fail> {
 }
 
 // A plot that leads too far below its page to be turned by a quarter.
-const FAR: &[u8] = b"IN;SP1;PU0,0;PD0,-65500;";
+const FAR: &[u8] = b"IN;SP1;PU0,0;PD0,-8388600;";
 
 const TOO_FAR: &str = "a line leads too far from the page to be turned\n";
 
 #[test]
 fn turned_too_far(rt: HostRuntime) -> Result<(), Fail> {
     for (line, is_refused) in [
-        ("plotraster pbm a.plt -o out", false),
-        ("plotraster pbm --rotate=90 a.plt -o out", true),
+        ("plotraster pbm --profile=full a.plt -o out", false),
+        (
+            "plotraster pbm --profile=full --rotate=90 a.plt -o out",
+            true,
+        ),
         (
             "plotraster pbm --profile=full --sheet=each --rotate=90 a.plt -o d",
             true,
         ),
-        ("plotraster svg --pens=2 --rotate=90 a.plt -o out", false),
-        ("plotraster report --rotate=90 a.plt -o out", false),
+        (
+            "plotraster svg --profile=full --pens=2 --rotate=90 a.plt -o out",
+            false,
+        ),
+        (
+            "plotraster report --profile=full --rotate=90 a.plt -o out",
+            false,
+        ),
     ] {
         let log = log_on(rt.alloc(), FAR, line)?;
         let log = log.as_str();

@@ -188,9 +188,9 @@ plotraster|pbm|@=99999999999999999999
 const OUT_OF_RANGE: &str = "\
 ValueValidation 2
 plotraster|pbm|--width=63
-plotraster|pbm|--width=65537
+plotraster|pbm|--width=524289
 plotraster|pbm|--height=63
-plotraster|pbm|--height=65537
+plotraster|pbm|--height=524289
 plotraster|pbm|--left=-1
 plotraster|pbm|--left=65537
 plotraster|pbm|--below=-1
@@ -200,7 +200,7 @@ plotraster|pbm|--dots=1201
 plotraster|pbm|--band=0
 plotraster|pbm|--band=4097
 plotraster|pbm|--from=-1
-plotraster|pbm|--from=100000
+plotraster|pbm|--from=619238
 ";
 
 #[test]

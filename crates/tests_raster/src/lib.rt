@@ -12,6 +12,8 @@ mod checksums;
 #[cfg(test)]
 mod deflate_streams;
 #[cfg(test)]
+mod far_strokes;
+#[cfg(test)]
 mod forms;
 #[cfg(test)]
 mod gauges;

@@ -121,11 +121,11 @@ strokes = refl
 
 -- what can be turned
 turnable : Agree (
-    -- what lies 1,046,528 below the page comes to 1,048,576
-    (is_turnable Quarter tall (stroke whole (pos 1048576) (pos 1048576) (negsuc 1048575) (negsuc 1046527)), true)
-    ∷ (is_turnable Quarter tall (stroke whole (pos 0) (pos 0) (pos 0) (negsuc 1046528)), false)  -- and one more is too many
-    ∷ (is_turnable ThreeQuarters tall (stroke whole (pos 0) (pos 0) (pos 0) (negsuc 1046528)), true)
-    ∷ (is_turnable ThreeQuarters tall (stroke whole (negsuc 1047552) (pos 0) (pos 0) (pos 0)), false)
+    -- what lies 134,215,664 below the page comes to 134,217,712
+    (is_turnable Quarter tall (stroke whole (pos 134217712) (pos 134217712) (negsuc 134217711) (negsuc 134215663)), true)
+    ∷ (is_turnable Quarter tall (stroke whole (pos 0) (pos 0) (pos 0) (negsuc 134215664)), false)  -- and one more is too many
+    ∷ (is_turnable ThreeQuarters tall (stroke whole (pos 0) (pos 0) (pos 0) (negsuc 134215664)), true)
+    ∷ (is_turnable ThreeQuarters tall (stroke whole (negsuc 134216688) (pos 0) (pos 0) (pos 0)), false)
     -- a window over the edge of the page
     ∷ (is_turnable Half tall (stroke (window (pos 0) (pos 0) (pos 1025) (pos 2048)) (pos 0) (pos 0) (pos 0) (pos 0)), false)
     ∷ (is_turnable None tall (stroke (window (pos 0) (pos 0) (pos 1025) (pos 2048)) (pos 0) (pos 0) (pos 0) (pos 0)), true)
@@ -146,8 +146,8 @@ labels_upwards : turned_labels Quarter tall (written (at (pos 0) (pos 0)) (at (p
 labels_upwards = refl
 
 -- a place that would lie too far away is cut to the farthest one
-labels_cut : turned_labels Half tall (written (at (pos 0) (pos 0)) (at (negsuc 1048000) (pos 0)) (at (pos 0) (pos 48)) ∷ [])
-    ≡ written (at (pos 1024) (pos 2048)) (at (pos 1048576) (pos 2048)) (at (pos 1024) (pos 2000)) ∷ []
+labels_cut : turned_labels Half tall (written (at (pos 0) (pos 0)) (at (negsuc 134217000) (pos 0)) (at (pos 0) (pos 48)) ∷ [])
+    ≡ written (at (pos 1024) (pos 2048)) (at (pos 134217712) (pos 2048)) (at (pos 1024) (pos 2000)) ∷ []
 labels_cut = refl
 
 -- pixels of the page at 127 dots per inch, where it has 16 rows and 8 columns

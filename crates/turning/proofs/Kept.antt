@@ -10,7 +10,7 @@ use Rattle.exact.specs.declared.spot.Spot.{Spot}
 use Rattle.plot_page.specs.declared.page.Page.{Page}
 use Rattle.plot_page.specs.declared.window.Window.{Window}
 use Rattle.plot_page.specs.Segments.{Segment}
-use Rattle.plot_page.specs.Strokes.{is_drawn_with, is_on_page, is_stroke, is_window}
+use Rattle.plot_page.specs.Strokes.{is_drawn_with, is_far_stroke, is_on_roll, is_roll_window}
 use Rattle.turning.specs.Laws.{EmptyWindowsStayEmpty, LiesOn, LiesWhollyOn, TurnableAreStrokes}
 use Rattle.turning.specs.Turns.{has_corners, has_ends, is_corner_at, is_end_at, is_turnable}
 use Rattle.turning.specs.Turns.{spot, turned_page, turned_place, turned_segment, turned_window}
@@ -48,30 +48,30 @@ swapped true false = refl
 swapped false true = refl
 swapped false false = refl
 
-windows_are : (turn : Turn) (page : Page) (w : Window) → is_window (turned_window turn page w) ≡ has_corners turn page w
+windows_are : (turn : Turn) (page : Page) (w : Window) → is_roll_window (turned_window turn page w) ≡ has_corners turn page w
 windows_are None page w = refl
 windows_are Quarter page w =
-    across (is_on_page (pos (16 * page.height) -ℤ w.y0)) (is_on_page w.x0) (is_on_page (pos (16 * page.height) -ℤ w.y1)) (is_on_page w.x1)
+    across (is_on_roll (pos (16 * page.height) -ℤ w.y0)) (is_on_roll w.x0) (is_on_roll (pos (16 * page.height) -ℤ w.y1)) (is_on_roll w.x1)
 windows_are Half page w =
     let a = is_corner_at (turned_place Half page (spot w.x0 w.y0)) in
     let b = is_corner_at (turned_place Half page (spot w.x1 w.y1)) in
     swapped a b
 windows_are ThreeQuarters page w =
-    let a = is_on_page w.y0 in
-    let b = is_on_page (pos (16 * page.width) -ℤ w.x0) in
-    let c = is_on_page w.y1 in
-    let d = is_on_page (pos (16 * page.width) -ℤ w.x1) in
+    let a = is_on_roll w.y0 in
+    let b = is_on_roll (pos (16 * page.width) -ℤ w.x0) in
+    let c = is_on_roll w.y1 in
+    let d = is_on_roll (pos (16 * page.width) -ℤ w.x1) in
     swapped (c && b) (a && d) ∙ across a b c d
 
 drawn : (p w e k : Bool) → (p && (w && e)) ≡ true → p ≡ true
 drawn true w e k h = refl
 drawn false w e k h = h
 
-strokes_are : (turn : Turn) (page : Page) (s : Segment) → is_stroke s ≡ true
-    → is_stroke (turned_segment turn page s) ≡ is_turnable turn page s
+strokes_are : (turn : Turn) (page : Page) (s : Segment) → is_far_stroke s ≡ true
+    → is_far_stroke (turned_segment turn page s) ≡ is_turnable turn page s
 strokes_are turn page s h =
     let d = (and_parts (is_drawn_with s.pen s.width) _ h).0 in
-    ap (λ (b : Bool). b && (is_window (turned_window turn page s.window) && has_ends turn page s)) d
+    ap (λ (b : Bool). b && (is_roll_window (turned_window turn page s.window) && has_ends turn page s)) d
     ∙ ap (λ (b : Bool). b && has_ends turn page s) (windows_are turn page s.window)
 
 -- a place on a page lies on the page after the turn
@@ -91,14 +91,14 @@ lies_on ThreeQuarters page x y on =
     record { left = on.below; below = omega (arith, ints, on.right); right = on.above; above = omega (arith, ints, on.left) }
 
 -- a number from 0 up to the length of a side
-on_side : (z : ℤ) (side : ℕ) → side ≤ 65536 → pos 0 ≤ℤ z → z ≤ℤ pos (16 * side) → is_on_page z ≡ true
+on_side : (z : ℤ) (side : ℕ) → side ≤ 524288 → pos 0 ≤ℤ z → z ≤ℤ pos (16 * side) → is_on_roll z ≡ true
 on_side z side most from to =
-    let h : z ≤ℤ pos 1048576 = omega (arith, ints) in
+    let h : z ≤ℤ pos 8388608 = omega (arith, ints) in
     grind (arith, ints)
 
-in_range : (z : ℤ) (side : ℕ) → side ≤ 65536 → pos 0 ≤ℤ z → z ≤ℤ pos (16 * side) → nat_le (nat_abs z) 1048576 ≡ true
+in_range : (z : ℤ) (side : ℕ) → side ≤ 524288 → pos 0 ≤ℤ z → z ≤ℤ pos (16 * side) → nat_le (nat_abs z) 134217712 ≡ true
 in_range z side most from to =
-    let h : nat_abs z ≤ 1048576 = omega (arith, ints) in
+    let h : nat_abs z ≤ 134217712 = omega (arith, ints) in
     grind (arith, nat_tests)
 
 corner_on : (page : Page) (p : Spot) → LiesOn page p.x p.y → is_corner_at p ≡ true

@@ -17,20 +17,20 @@ use Rattle.turning.specs.Turns.{has_corners, has_ends, is_corner_at, is_end_at, 
 use Rattle.turning.specs.Turns.{spot, turned_place, turned_segment, turned_window, window_between}
 
 -- a number of a place is not cut
-cut_is : (z : ℤ) → nat_abs z ≤ 1048576 → cut z ≡ z
-cut_is z h = omega (arith, ints, int_max_is (neg_ℤ (pos 1048576)) (int_min (pos 1048576) z), int_min_is (pos 1048576) z)
+cut_is : (z : ℤ) → nat_abs z ≤ 134217712 → cut z ≡ z
+cut_is z h = omega (arith, ints, int_max_is (neg_ℤ (pos 134217712)) (int_min (pos 134217712) z), int_min_is (pos 134217712) z)
 
--- a corner on the greatest page
+-- a corner on the longest page
 record IsCornerAt (p : Spot) : Type 0 where
   pub x_from : pos 0 ≤ℤ p.x
   pub y_from : pos 0 ≤ℤ p.y
-  pub x_in : nat_abs p.x ≤ 1048576
-  pub y_in : nat_abs p.y ≤ 1048576
+  pub x_in : nat_abs p.x ≤ 8388608
+  pub y_in : nat_abs p.y ≤ 8388608
 
 -- an end of a stroke
 record IsEndAt (p : Spot) : Type 0 where
-  pub x_in : nat_abs p.x ≤ 1048576
-  pub y_in : nat_abs p.y ≤ 1048576
+  pub x_in : nat_abs p.x ≤ 134217712
+  pub y_in : nat_abs p.y ≤ 134217712
 
 corner_by : (p : Spot) → is_corner_at p ≡ true → IsCornerAt p
 corner_by p h = record {
@@ -75,7 +75,7 @@ made_of s first last w =
     record { pen = s.pen; colour = s.colour; width = s.width; window = w; ax = first.x; ay = first.y; bx = last.x; by = last.y }
 
 -- a place that is not cut
-kept : (p : Spot) (q : Place) → q ≡ place_of p → nat_abs p.x ≤ 1048576 → nat_abs p.y ≤ 1048576 → spot q.x q.y ≡ p
+kept : (p : Spot) (q : Place) → q ≡ place_of p → nat_abs p.x ≤ 134217712 → nat_abs p.y ≤ 134217712 → spot q.x q.y ≡ p
 kept p q is x y = let a = cut_is p.x x in let b = cut_is p.y y in rw (is, a, b) refl
 
 pub made_is : (turn : Turn) (page : Page) (s : Segment) (low high first last : Place) (w : Window)
@@ -83,8 +83,8 @@ pub made_is : (turn : Turn) (page : Page) (s : Segment) (low high first last : P
     → made_of s first last w ≡ turned_segment turn page s
 made_is turn page s low high first last w h are =
     let t = turnable_by turn page s h in
-    let l = kept (turned_place turn page (spot s.window.x0 s.window.y0)) low are.low_is t.low.x_in t.low.y_in in
-    let k = kept (turned_place turn page (spot s.window.x1 s.window.y1)) high are.high_is t.high.x_in t.high.y_in in
+    let l = kept (turned_place turn page (spot s.window.x0 s.window.y0)) low are.low_is (omega (arith, t.low.x_in)) (omega (arith, t.low.y_in)) in
+    let k = kept (turned_place turn page (spot s.window.x1 s.window.y1)) high are.high_is (omega (arith, t.high.x_in)) (omega (arith, t.high.y_in)) in
     let a = kept (turned_place turn page (spot s.ax s.ay)) first are.first_is t.first.x_in t.first.y_in in
     let b = kept (turned_place turn page (spot s.bx s.by)) last are.last_is t.last.x_in t.last.y_in in
     let v : w ≡ turned_window turn page s.window =
@@ -93,7 +93,7 @@ made_is turn page s low high first last w h are =
     ∙ ap (λ p. window_between turn p (turned_place turn page (spot s.window.x1 s.window.y1))) l in
     cc (v, ap (λ (p : Spot). p.x) a, ap (λ (p : Spot). p.y) a, ap (λ (p : Spot). p.x) b, ap (λ (p : Spot). p.y) b)
 
--- a window on the greatest page
+-- a window on the longest page
 record IsWindowNear (w : Window) : Type 0 where
   pub low : IsCornerAt (spot w.x0 w.y0)
   pub high : IsCornerAt (spot w.x1 w.y1)

@@ -6,7 +6,7 @@ use Rattle.exact.specs.declared.spot.Spot.{Spot}
 use Rattle.plot_page.specs.declared.page.Page.{Page}
 use Rattle.plot_page.specs.declared.window.Window.{Window}
 use Rattle.plot_page.specs.Segments.{Segment}
-use Rattle.plot_page.specs.Strokes.{is_stroke}
+use Rattle.plot_page.specs.Strokes.{is_far_stroke}
 use Rattle.turning.specs.Turns.{is_turnable, turned_page, turned_place, turned_segment, turned_window}
 
 -- a turn, and another quarter
@@ -50,5 +50,5 @@ pub record LiesWhollyOn (page : Page) (s : Segment) : Type 0 where
 -- what can be turned is what is a stroke after the turn; all strokes on the page can be
 pub record TurnableAreStrokes : Type 0 where
   pub strokes : (turn : Turn) (page : Page) (s : Segment) →
-      is_stroke s ≡ true → is_stroke (turned_segment turn page s) ≡ is_turnable turn page s
+      is_far_stroke s ≡ true → is_far_stroke (turned_segment turn page s) ≡ is_turnable turn page s
   pub on_page : (turn : Turn) (page : Page) (s : Segment) → LiesWhollyOn page s → is_turnable turn page s ≡ true

@@ -11,8 +11,8 @@ use Rattle.plot_page.specs.declared.page.Page.{Page}
 use Rattle.plot_page.specs.declared.pens.PenSet.{PenSet}
 use Rattle.plot_page.specs.declared.window.Window.{Window}
 use Rattle.plot_page.specs.Pens.{has_pen}
-use Rattle.plot_page.specs.Segments.{Segment, is_end}
-use Rattle.plot_page.specs.Strokes.{is_corner}
+use Rattle.plot_page.specs.Segments.{Segment, is_far_end}
+use Rattle.plot_page.specs.Strokes.{is_on_roll}
 
 abbrev pub spot : ℤ → ℤ → Spot
 spot x y = record { x = x; y = y }
@@ -81,9 +81,9 @@ turned_if_selected pens turn page s = if has_pen pens s.pen then turned_segment 
 abbrev pub turned_strokes : PenSet → Turn → Page → List Segment → List Segment
 turned_strokes pens turn page strokes = map (turned_if_selected pens turn page) strokes
 
--- after the turn the corners of a window lie on the greatest page
+-- after the turn the corners of a window lie on the longest page
 abbrev pub is_corner_at : Spot → Bool
-is_corner_at p = is_corner p.x p.y
+is_corner_at p = is_on_roll p.x && is_on_roll p.y
 
 abbrev pub has_corners : Turn → Page → Window → Bool
 has_corners turn page w =
@@ -91,7 +91,7 @@ has_corners turn page w =
 
 -- and the ends of a stroke are places
 abbrev pub is_end_at : Spot → Bool
-is_end_at p = is_end p.x p.y
+is_end_at p = is_far_end p.x p.y
 
 abbrev pub has_ends : Turn → Page → Segment → Bool
 has_ends turn page s =

@@ -1,7 +1,7 @@
 //! Strokes that are turned with their page.
 ghost use Rattle.std.specs.Prelude.{◌≡◌, ◌||◌, not, true};
 ghost use Rattle.plot_page.specs.Pens.{has_pen};
-ghost use Rattle.plot_page.specs.Strokes.{is_on_page};
+ghost use Rattle.plot_page.specs.Strokes.{is_on_roll};
 ghost use Rattle.turning.specs.Turns.{are_turnable, has_corners, has_ends, is_corner_at, is_end_at, is_turnable, spot};
 ghost use Rattle.turning.specs.Turns.{turned_if_selected, turned_segment, turned_strokes, window_between};
 
@@ -9,10 +9,10 @@ use crate::places::turned_place;
 use directions::Turn;
 use exact::Spot;
 use labels::Place;
-use plot_page::{FARTHEST_PLACE, Page, PenSet, Stroke, Window};
+use plot_page::{FARTHEST_EDGE, FARTHEST_END, Page, PenSet, Stroke, Window};
 
 /// Whether all strokes of the selected pens are strokes after a turn of their page: the ends are places, and the corners of the
-/// windows lie on the greatest page. All that lies on the page does so; but what lies 65,536 plotter units below it, say, would
+/// windows lie on the longest page. All that lies on the page does so; but what lies 8,388,607 plotter units below it, say, would
 /// lie farther than that right of its new lower left corner.
 pub fn are_turnable(strokes: &[Stroke], pens: &PenSet, turn: Turn, page: &Page) -> bool
     ensures { result ≡ are_turnable pens.now turn page.now strokes.now }
@@ -32,7 +32,7 @@ fn is_turnable(stroke: &Stroke, turn: Turn, page: &Page) -> bool
     has_corners(stroke.window, turn, page) && has_ends(stroke, turn, page)
 }
 
-// Whether the corners of a window lie on the greatest page after the turn.
+// Whether the corners of a window lie on the longest page after the turn.
 fn has_corners(window: Window, turn: Turn, page: &Page) -> bool
     ensures { result ≡ has_corners turn page.now window }
 {
@@ -51,20 +51,20 @@ fn has_ends(stroke: &Stroke, turn: Turn, page: &Page) -> bool
 fn is_corner(place: Spot) -> bool
     ensures { result ≡ is_corner_at place }
 {
-    is_on_page(place.x) && is_on_page(place.y)
+    is_on_roll(place.x) && is_on_roll(place.y)
 }
 
-fn is_on_page(number: i128) -> bool
-    ensures { result ≡ is_on_page number }
+fn is_on_roll(number: i128) -> bool
+    ensures { result ≡ is_on_roll number }
 {
-    0 <= number && number <= i128::from(FARTHEST_PLACE)
+    0 <= number && number <= i128::from(FARTHEST_EDGE)
 }
 
 fn is_end(place: Spot) -> bool
     ensures { result ≡ is_end_at place }
 {
-    place.x.unsigned_abs() <= u128::from(FARTHEST_PLACE)
-        && place.y.unsigned_abs() <= u128::from(FARTHEST_PLACE)
+    place.x.unsigned_abs() <= u128::from(FARTHEST_END)
+        && place.y.unsigned_abs() <= u128::from(FARTHEST_END)
 }
 
 /// Turns the strokes of the selected pens with their page. The other strokes stay as they are.

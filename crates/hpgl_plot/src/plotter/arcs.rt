@@ -95,7 +95,7 @@ impl Plotter {
         ensures end { IfOk result
             (λ end. end ≡ pen_at self.old.page self.old.state.frame
             (curves.curve_point curve (curves.chord_count curve))) }
-        ensures in_range { IfOk result (λ end. IsInRange end.place) }
+        ensures in_range { IfOk result (λ end. IsInRange self.new.range end.place) }
         ensures runs { Runs (travelled (seen self.old) draws
             (start ∷ curves.curve_places self.old.page self.old.state.frame curve)) (seen self.new) result }
     {

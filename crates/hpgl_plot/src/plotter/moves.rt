@@ -146,10 +146,10 @@ impl Plotter {
 
     /// Begins a path at a place, which need not be the pen's.
     pub fn begin(&self, place: Spot) -> Result<(), Stop>
-        ensures in_range { IfOk result (λ _. IsInRange place) }
+        ensures in_range { IfOk result (λ _. IsInRange self.now.range place) }
         ensures runs { (draws : Bool) → Runs (travelled (seen self.now) draws (place ∷ [])) (seen self.now) result }
     {
-        if is_place_in_range(place) {
+        if is_place_in_range(place, self.range) {
             Ok(())
         } else {
             Err(Stop::OffRange)
@@ -159,11 +159,11 @@ impl Plotter {
     /// Comes to the next place of a path, in a stroke if it draws.
     #[inline(always)]
     pub fn reach(&mut self, from: Spot, place: Spot, draws: bool) -> Result<(), Stop>
-        requires from_in { IsInRange from }
-        ensures in_range { IfOk result (λ _. IsInRange place) }
+        requires from_in { IsInRange self.old.range from }
+        ensures in_range { IfOk result (λ _. IsInRange self.new.range place) }
         ensures runs { Runs (travelled (seen self.old) draws (from ∷ (place ∷ []))) (seen self.new) result }
     {
-        if !is_place_in_range(place) {
+        if !is_place_in_range(place, self.range) {
             return Err(Stop::OffRange);
         }
         if draws {
@@ -186,7 +186,7 @@ impl Plotter {
     /// The pen comes to a position.
     #[inline(always)]
     pub fn arrive(&mut self, end: Position)
-        requires place_in { IsInRange end.place }
+        requires place_in { IsInRange self.old.range end.place }
         requires placed { end.place ≡ frames.place self.old.page self.old.state.frame end.coordinates }
         ensures { ends_in (moved self.old.state end) (Some (seen self.old)) ≡ Some (seen self.new) }
     {
@@ -196,7 +196,7 @@ impl Plotter {
     // Sets where the pen is.
     #[inline(always)]
     fn set_position(&mut self, end: Position)
-        requires place_in { IsInRange end.place }
+        requires place_in { IsInRange self.old.range end.place }
         requires x_near { IsNear self.old.axes.x end.coordinates.x }
         requires y_near { IsNear self.old.axes.y end.coordinates.y }
         ensures { ends_in (moved self.old.state end) (Some (seen self.old)) ≡ Some (seen self.new) }
@@ -208,9 +208,10 @@ impl Plotter {
     // A stroke between two places, unless the pen is 0.
     #[inline(always)]
     fn draw(&mut self, a: Spot, b: Spot) -> Result<(), Stop>
-        requires a_in { IsInRange a }
-        requires b_in { IsInRange b }
+        requires a_in { IsInRange self.old.range a }
+        requires b_in { IsInRange self.old.range b }
         ensures page { self.new.page ≡ self.old.page }
+        ensures range { self.new.range ≡ self.old.range }
         ensures state { self.new.state ≡ self.old.state }
         ensures kept { IfOk result
             (λ _. self.new.strokes.items
@@ -235,8 +236,8 @@ impl Plotter {
     // window.
     fn stroke(&self, a: Spot, b: Spot) -> Stroke
         requires pen { 1 ≤ self.now.state.pen }
-        requires a_in { IsInRange a }
-        requires b_in { IsInRange b }
+        requires a_in { IsInRange self.now.range a }
+        requires b_in { IsInRange self.now.range b }
         ensures { result ≡ stroke self.now.state a b }
     {
         self.line(a, b)
@@ -267,8 +268,8 @@ impl Plotter {
 
     /// The stroke that the pen draws between two places, or pen 1 if none is selected.
     pub fn line(&self, a: Spot, b: Spot) -> Stroke
-        requires a_in { IsInRange a }
-        requires b_in { IsInRange b }
+        requires a_in { IsInRange self.now.range a }
+        requires b_in { IsInRange self.now.range b }
         ensures { result ≡ stroke (by_a_pen self.now.state) a b }
     {
         let width = self.width_of(self.state.pen.max(1));
@@ -278,8 +279,8 @@ impl Plotter {
     /// The same of a width in grains, up to 12,800.
     pub fn line_of_width(&self, width: u32, a: Spot, b: Spot) -> Stroke
         requires width { width ≤ GREATEST_WIDTH }
-        requires a_in { IsInRange a }
-        requires b_in { IsInRange b }
+        requires a_in { IsInRange self.now.range a }
+        requires b_in { IsInRange self.now.range b }
         ensures { result ≡ record (stroke (by_a_pen self.now.state) a b) { width = width } }
     {
         let state = &self.state;

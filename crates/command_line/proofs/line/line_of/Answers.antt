@@ -166,7 +166,7 @@ returns-in_err-reading-clause-pens c =
 pub returns-in_err-reading-clause-refused : goal.returns-in_err-reading-clause-refused
 returns-in_err-reading-clause-refused c = λ has.
     passed_on _ _ c.from_residual-in_err-reading.ensures.1
-    ∙ sym (bad_3 c.args.kind (rows_of (found_of c.args.options.now)) (c.in_ok-output.ensures.refused has.pens) c.in_ok-carousel.ensures.refused (c.in_ok-task.ensures.refused has.numbers) _ (c.in_err-reading.ensures.refused has.profile))
+    ∙ sym (bad_3 c.args.kind (rows_of (found_of c.args.options.now)) (c.in_ok-output.ensures.refused has.pens) c.in_ok-carousel.ensures.refused (c.in_ok-task.ensures.refused has.numbers) _ (c.in_err-reading.ensures.refused has.profile has.numbers))
 
 pub returns-in_err-each_sheet-clause-pens : goal.returns-in_err-each_sheet-clause-pens
 returns-in_err-each_sheet-clause-pens c =
@@ -176,7 +176,7 @@ returns-in_err-each_sheet-clause-pens c =
 pub returns-in_err-each_sheet-clause-refused : goal.returns-in_err-each_sheet-clause-refused
 returns-in_err-each_sheet-clause-refused c = λ has.
     passed_on _ _ c.from_residual-in_err-each_sheet.ensures.1
-    ∙ sym (bad_4 c.args.kind (rows_of (found_of c.args.options.now)) (c.in_ok-output.ensures.refused has.pens) c.in_ok-carousel.ensures.refused (c.in_ok-task.ensures.refused has.numbers) (c.in_ok-reading.ensures.refused has.profile) _ c.in_err-each_sheet.ensures.refused)
+    ∙ sym (bad_4 c.args.kind (rows_of (found_of c.args.options.now)) (c.in_ok-output.ensures.refused has.pens) c.in_ok-carousel.ensures.refused (c.in_ok-task.ensures.refused has.numbers) (c.in_ok-reading.ensures.refused has.profile has.numbers) _ c.in_err-each_sheet.ensures.refused)
 
 pub returns-in_err-pixels-clause-pens : goal.returns-in_err-pixels-clause-pens
 returns-in_err-pixels-clause-pens c =
@@ -186,7 +186,7 @@ returns-in_err-pixels-clause-pens c =
 pub returns-in_err-pixels-clause-refused : goal.returns-in_err-pixels-clause-refused
 returns-in_err-pixels-clause-refused c = λ has.
     passed_on _ _ c.from_residual-in_err-pixels.ensures.1
-    ∙ sym (bad_5 c.args.kind (rows_of (found_of c.args.options.now)) (c.in_ok-output.ensures.refused has.pens) c.in_ok-carousel.ensures.refused (c.in_ok-task.ensures.refused has.numbers) (c.in_ok-reading.ensures.refused has.profile) c.in_ok-each_sheet.ensures.refused _ (c.in_err-pixels.ensures.refused (has.numbers.within (codes "size"))))
+    ∙ sym (bad_5 c.args.kind (rows_of (found_of c.args.options.now)) (c.in_ok-output.ensures.refused has.pens) c.in_ok-carousel.ensures.refused (c.in_ok-task.ensures.refused has.numbers) (c.in_ok-reading.ensures.refused has.profile has.numbers) c.in_ok-each_sheet.ensures.refused _ (c.in_err-pixels.ensures.refused (has.numbers.within (codes "size"))))
 
 pub returns-in_err-choice-clause-pens : goal.returns-in_err-choice-clause-pens
 returns-in_err-choice-clause-pens c =
@@ -196,7 +196,7 @@ returns-in_err-choice-clause-pens c =
 pub returns-in_err-choice-clause-refused : goal.returns-in_err-choice-clause-refused
 returns-in_err-choice-clause-refused c = λ has.
     passed_on _ _ c.from_residual-in_err-choice.ensures.1
-    ∙ sym (bad_6 c.args.kind (rows_of (found_of c.args.options.now)) (c.in_ok-output.ensures.refused has.pens) c.in_ok-carousel.ensures.refused (c.in_ok-task.ensures.refused has.numbers) (c.in_ok-reading.ensures.refused has.profile) c.in_ok-each_sheet.ensures.refused (c.in_ok-pixels.ensures.refused (has.numbers.within (codes "size"))) _ (c.in_err-choice.ensures.refused (has.numbers.within (codes "margin"))))
+    ∙ sym (bad_6 c.args.kind (rows_of (found_of c.args.options.now)) (c.in_ok-output.ensures.refused has.pens) c.in_ok-carousel.ensures.refused (c.in_ok-task.ensures.refused has.numbers) (c.in_ok-reading.ensures.refused has.profile has.numbers) c.in_ok-each_sheet.ensures.refused (c.in_ok-pixels.ensures.refused (has.numbers.within (codes "size"))) _ (c.in_err-choice.ensures.refused (has.numbers.within (codes "margin"))))
 
 pub returns-in_err-turn-clause-pens : goal.returns-in_err-turn-clause-pens
 returns-in_err-turn-clause-pens c =
@@ -206,7 +206,7 @@ returns-in_err-turn-clause-pens c =
 pub returns-in_err-turn-clause-refused : goal.returns-in_err-turn-clause-refused
 returns-in_err-turn-clause-refused c = λ has.
     passed_on _ _ c.from_residual-in_err-turn.ensures.1
-    ∙ sym (bad_7 c.args.kind (rows_of (found_of c.args.options.now)) (c.in_ok-output.ensures.refused has.pens) c.in_ok-carousel.ensures.refused (c.in_ok-task.ensures.refused has.numbers) (c.in_ok-reading.ensures.refused has.profile) c.in_ok-each_sheet.ensures.refused (c.in_ok-pixels.ensures.refused (has.numbers.within (codes "size"))) (c.in_ok-choice.ensures.refused (has.numbers.within (codes "margin"))) _ c.in_err-turn.ensures.refused)
+    ∙ sym (bad_7 c.args.kind (rows_of (found_of c.args.options.now)) (c.in_ok-output.ensures.refused has.pens) c.in_ok-carousel.ensures.refused (c.in_ok-task.ensures.refused has.numbers) (c.in_ok-reading.ensures.refused has.profile has.numbers) c.in_ok-each_sheet.ensures.refused (c.in_ok-pixels.ensures.refused (has.numbers.within (codes "size"))) (c.in_ok-choice.ensures.refused (has.numbers.within (codes "margin"))) _ c.in_err-turn.ensures.refused)
 
 pub returns-in_err-place-clause-pens : goal.returns-in_err-place-clause-pens
 returns-in_err-place-clause-pens c =
@@ -216,11 +216,11 @@ returns-in_err-place-clause-pens c =
 pub returns-in_err-place-clause-refused : goal.returns-in_err-place-clause-refused
 returns-in_err-place-clause-refused c = λ has.
     passed_on _ _ c.from_residual-in_err-place.ensures.1
-    ∙ sym (bad_8 c.args.kind (rows_of (found_of c.args.options.now)) (c.in_ok-output.ensures.refused has.pens) c.in_ok-carousel.ensures.refused (c.in_ok-task.ensures.refused has.numbers) (c.in_ok-reading.ensures.refused has.profile) c.in_ok-each_sheet.ensures.refused (c.in_ok-pixels.ensures.refused (has.numbers.within (codes "size"))) (c.in_ok-choice.ensures.refused (has.numbers.within (codes "margin"))) c.in_ok-turn.ensures.refused _ c.in_err-place.ensures.refused)
+    ∙ sym (bad_8 c.args.kind (rows_of (found_of c.args.options.now)) (c.in_ok-output.ensures.refused has.pens) c.in_ok-carousel.ensures.refused (c.in_ok-task.ensures.refused has.numbers) (c.in_ok-reading.ensures.refused has.profile has.numbers) c.in_ok-each_sheet.ensures.refused (c.in_ok-pixels.ensures.refused (has.numbers.within (codes "size"))) (c.in_ok-choice.ensures.refused (has.numbers.within (codes "margin"))) c.in_ok-turn.ensures.refused _ c.in_err-place.ensures.refused)
 
 pub returns-clause-pens : goal.returns-clause-pens
 returns-clause-pens c = (λ h. absurd (cc), λ bad. absurd (no_bad_list _ _ c.in_ok-output.ensures.pens bad))
 
 pub returns-clause-refused : goal.returns-clause-refused
 returns-clause-refused c = λ has.
-    sym (good_8 c.args.kind (rows_of (found_of c.args.options.now)) (c.in_ok-output.ensures.refused has.pens) c.in_ok-carousel.ensures.refused (c.in_ok-task.ensures.refused has.numbers) (c.in_ok-reading.ensures.refused has.profile) c.in_ok-each_sheet.ensures.refused (c.in_ok-pixels.ensures.refused (has.numbers.within (codes "size"))) (c.in_ok-choice.ensures.refused (has.numbers.within (codes "margin"))) c.in_ok-turn.ensures.refused c.in_ok-place.ensures.refused)
+    sym (good_8 c.args.kind (rows_of (found_of c.args.options.now)) (c.in_ok-output.ensures.refused has.pens) c.in_ok-carousel.ensures.refused (c.in_ok-task.ensures.refused has.numbers) (c.in_ok-reading.ensures.refused has.profile has.numbers) c.in_ok-each_sheet.ensures.refused (c.in_ok-pixels.ensures.refused (has.numbers.within (codes "size"))) (c.in_ok-choice.ensures.refused (has.numbers.within (codes "margin"))) c.in_ok-turn.ensures.refused c.in_ok-place.ensures.refused)

@@ -1,11 +1,11 @@
-use Rattle.std.proofs.Common.{◌≡◌, ◌≢◌, ◌∙◌, ◌||◌, ◌≤◌, ℕ, Bool, List, Option, Some, None, Result, Err, IfOk, true, false, is_some, refl, sym, subst, codes, arith}
+use Rattle.std.proofs.Common.{◌&&◌, ◌≡◌, ◌≢◌, ◌∙◌, ◌||◌, ◌≤◌, ℕ, Bool, List, Option, Some, None, Result, Err, IfOk, true, false, is_some, refl, sym, subst, codes, arith}
 use Rattle.std.specs.Prelude.{IfSome}
 use Rattle.std.specs.Option.{unwrap_or}
 use Rattle.std.specs.Result.{result_err}
 use Rattle.std.proofs.lemmas.Bool.Decides.{nat_tests}
 use Rattle.clap.specs.Words.{Row, Text, found_of, rows_of}
 use Rattle.clap.proofs.WalkLemmas.{first_value-rows}
-use Rattle.plot_page.specs.Pages.{has_page_size}
+use Rattle.plot_page.specs.Pages.{is_roll_side}
 use Rattle.command_line.specs.declared.fault.LineFault.{LineFault}
 use Rattle.command_line.specs.declared.fault.LineFault.TheVariants.{Pens}
 use Rattle.command_line.specs.Lines.{has_paper_and_side, number_in, page_fault, page_size, paper_text}
@@ -29,7 +29,7 @@ record WithPaper (rows : List Row) (r : Result (ℕ × ℕ) LineFault) : Type 0 
   size : IfOk r (λ size. page_size rows ≡ Some size)
   one_way : IfOk r (λ _. has_paper_and_side rows ≡ false)
   pens : r ≢ Err Pens
-  fits : IfOk r (λ size. has_page_size size.0 size.1 ≡ true)
+  fits : IfOk r (λ size. (is_roll_side size.0 && is_roll_side size.1) ≡ true)
   fault : result_err r ≡ page_fault rows
 
 with_paper : (rows : List Row) (name : Text) (width height : Option ℕ) → paper_text rows ≡ Some name → number_in rows (codes "width") ≡ width
@@ -37,7 +37,7 @@ with_paper : (rows : List Row) (name : Text) (width height : Option ℕ) → pap
 with_paper rows name width height some w h = branch (size_named name) (is_some width || is_some height) refl refl (named_fits name)
   where
     branch : (o : Option (ℕ × ℕ)) (b : Bool) → size_named name ≡ o → (is_some width || is_some height) ≡ b
-        → IfSome (size_named name) (λ size. has_page_size size.0 size.1 ≡ true) → WithPaper rows (size_or_fault o b)
+        → IfSome (size_named name) (λ size. (is_roll_side size.0 && is_roll_side size.1) ≡ true) → WithPaper rows (size_or_fault o b)
     branch None b is side fit = record { size = tt; one_way = tt; pens = λ e. absurd (cc); fits = tt; fault = rw (some, is) refl }
     branch (Some size) true is side fit = record { size = tt; one_way = tt; pens = λ e. absurd (cc); fits = tt; fault = rw (some, is, w, h, side) refl }
     branch (Some size) false is side fit = record {
@@ -103,14 +103,14 @@ returns-in-Some-clause-refused c = λ has.
     (subst (WithPaper (rows_of F)) (sym c.paper_size.ensures) with).fault
 
 pub returns-in_err-width-clause-refused : goal.returns-in_err-width-clause-refused
-returns-in_err-width-clause-refused c = λ has. absurd (c.in_err-width.ensures.understood 64 65536 (omega arith) (has.within (codes "width")))
+returns-in_err-width-clause-refused c = λ has. absurd (c.in_err-width.ensures.understood 64 524288 (omega arith) (has.within (codes "width")))
 
 pub returns-in_err-height-clause-refused : goal.returns-in_err-height-clause-refused
-returns-in_err-height-clause-refused c = λ has. absurd (c.in_err-height.ensures.understood 64 65536 (omega arith) (has.within (codes "height")))
+returns-in_err-height-clause-refused c = λ has. absurd (c.in_err-height.ensures.understood 64 524288 (omega arith) (has.within (codes "height")))
 
 -- the sides that are given, or those of A4, are those of a page
-sides : (width height : Option ℕ) → IfSome width (λ n. (64 ≤ n) × (n ≤ 65536)) → IfSome height (λ n. (64 ≤ n) × (n ≤ 65536))
-    → has_page_size (unwrap_or width 11880) (unwrap_or height 8400) ≡ true
+sides : (width height : Option ℕ) → IfSome width (λ n. (64 ≤ n) × (n ≤ 524288)) → IfSome height (λ n. (64 ≤ n) × (n ≤ 524288))
+    → (is_roll_side (unwrap_or width 11880) && is_roll_side (unwrap_or height 8400)) ≡ true
 sides None None wide high = refl
 sides None (Some h) wide high = grind (arith, nat_tests)
 sides (Some w) None wide high = grind (arith, nat_tests)
@@ -118,6 +118,6 @@ sides (Some w) (Some h) wide high = grind (arith, nat_tests)
 
 pub returns-in-None-clause-within : goal.returns-in-None-clause-within
 returns-in-None-clause-within c = λ has.
-    let wide = c.in_ok-width.ensures.understood 64 65536 (omega arith) (has.within (codes "width")) in
-    let high = c.in_ok-height.ensures.understood 64 65536 (omega arith) (has.within (codes "height")) in
+    let wide = c.in_ok-width.ensures.understood 64 524288 (omega arith) (has.within (codes "width")) in
+    let high = c.in_ok-height.ensures.understood 64 524288 (omega arith) (has.within (codes "height")) in
     rw (c.unwrap_or.ensures, c.unwrap_or-in-None.ensures) (sides _ _ wide high)

@@ -1,4 +1,4 @@
-use Rattle.std.proofs.Common.{◌≡◌, ℕ, List, length, ap, ◌∙◌}
+use Rattle.std.proofs.Common.{◌≡◌, ℕ, List, [], length, ap, ◌∙◌}
 use Rattle.std.proofs.Math.Seq.{take-length}
 use Rattle.hpgl_text.specs.Cut.{cut, cut_by}
 use Rattle.hpgl_text.specs.Shapes.{ItemShape}
@@ -8,6 +8,7 @@ use Rattle.full_plot.specs.Drawings.{areas_of, areas_of_sheet, full_runs, full_a
 use Rattle.full_notes.specs.Notes as full
 use Rattle.full_plot.proofs.CorePlots.{draws_as_in_core}
 use Rattle.full_plot.proofs.CoreNotes.{noted_as_in_core}
+use Rattle.full_plot.proofs.Wider.{accepts_no_more}
 use Rattle.conversion.proofs.laws.core_is_the_same_in_both.Goals as goal
 
 pub returns : goal.returns
@@ -16,12 +17,14 @@ returns c = λ page plot h.
     let drawn = draws_as_in_core page (cut plot) h.are_core in
     let strokes = strokes_in (full_runs (full_at_start page) (cut plot)) in
     record {
-      refusal = ap (λ (items : List ItemShape). refusal_in (full_runs (full_at_start page) items)) same ∙ drawn.0;
+      accepted = λ accepted.
+          ap (λ (items : List ItemShape). refusal_in (full_runs (full_at_start page) items)) same ∙ drawn.0
+          ∙ accepts_no_more page [] (cut plot) accepted;
       strokes = λ accepted.
           ap (λ (items : List ItemShape). let o = full_runs (full_at_start page) items in sheet_strokes (strokes_in o) (ends_in o) 1) same
           ∙ ap (λ (ends : List ℕ). sheet_strokes strokes ends 1) drawn.2
           ∙ take-length strokes
-          ∙ drawn.1 accepted;
+          ∙ drawn.1 (accepts_no_more page [] (cut plot) accepted);
       areas =
           ap (λ (items : List ItemShape). let o = full_runs (full_at_start page) items in areas_of_sheet (areas_of o) (ends_in o) (length (strokes_in o)) 1) same
           ∙ ap (λ (areas : List Area). areas_of_sheet areas (ends_in (full_runs (full_at_start page) (cut plot))) (length strokes) 1) drawn.3;

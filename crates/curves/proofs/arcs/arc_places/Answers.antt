@@ -7,13 +7,13 @@ use Rattle.curves.proofs.arcs.arc_places.Goals as goal
 use Rattle.curves.proofs.arcs.arc_places.Goals.{After-push-2}
 use Rattle.curves.proofs.arcs.arc_places.Goals.{in-None, in-Some+in_ok-push-in-Some, in-Some-2+in_ok-add_between-in-Some-2}
 
-wider : (s : Spot) → IsWithin (2 ^ 20) s → IsWithin (2 ^ 35) s
+wider : (s : Spot) → IsWithin (2 ^ 27) s → IsWithin (2 ^ 35) s
 wider s h = let hx = h.x_in in let hy = h.y_in in record { x_in = omega arith; y_in = omega arith }
 
 no_places : (xs : List Spot) → xs ≡ [] → All (IsWithin (2 ^ 35)) xs
 no_places xs e = rw e (All-nil (IsWithin (2 ^ 35)))
 
-one_more : (xs ys : List Spot) (s : Spot) → ys ≡ xs ++ (s ∷ []) → All (IsWithin (2 ^ 35)) xs → IsWithin (2 ^ 20) s → All (IsWithin (2 ^ 35)) ys
+one_more : (xs ys : List Spot) (s : Spot) → ys ≡ xs ++ (s ∷ []) → All (IsWithin (2 ^ 35)) xs → IsWithin (2 ^ 27) s → All (IsWithin (2 ^ 35)) ys
 one_more xs ys s e h p = rw e (All-push (IsWithin (2 ^ 35)) xs s h (wider s p))
 
 pub returns-clause-within : goal.returns-clause-within

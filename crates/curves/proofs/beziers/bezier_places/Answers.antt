@@ -22,6 +22,6 @@ loop-k-preserved c =
     record {
       value = one_more f c.loop-k.k c.loop-k.places.items c.push.new.self.items c.curve_place.result
           c.loop-k.invariant.value c.curve_place.ensures.value c.in_ok-push.ensures.items;
-      within = one_more_within (IsWithin (2 ^ 20)) c.loop-k.places.items c.push.new.self.items c.curve_place.result
+      within = one_more_within (IsWithin (2 ^ 27)) c.loop-k.places.items c.push.new.self.items c.curve_place.result
           c.loop-k.invariant.within c.curve_place.ensures.within c.in_ok-push.ensures.items;
     }

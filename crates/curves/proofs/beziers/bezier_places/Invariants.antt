@@ -7,5 +7,5 @@ use Rattle.curves.proofs.beziers.bezier_places.Given as goal
 abbrev pub invariant-loop-k : goal.invariant-loop-k
 invariant-loop-k l = record {
   value : l.places.items ≡ map (λ j. curve_place l.chords j l.fn.p0 l.fn.p1 l.fn.p2 l.fn.p3) (range_with_len 1 l.k);
-  within : All (IsWithin (2 ^ 20)) l.places.items;
+  within : All (IsWithin (2 ^ 27)) l.places.items;
 }

@@ -9,7 +9,7 @@ returns-clause-most c =
     let p = c.args.p in
     let h = c.requires.p_in in
     let k = c.requires.weight_in in
-    let m = product_within (pos w) p w (2 ^ 20) (omega arith) h in
+    let m = product_within (pos w) p w (2 ^ 27) (omega arith) h in
     let e : t (t c.from.result *ℤ t p) ≡ pos w *ℤ p =
     ap (λ (z : ℤ). t (t z *ℤ t p)) c.from.ensures ∙ read_product (pos w) p (omega arith) (omega arith) in
     rw e m

@@ -11,7 +11,7 @@ record IsSum (a b c d : ℤ) : Type 0 where
   four_fits : FitsSigned w128 (t (t (t a +ℤ t b) +ℤ t c) +ℤ t d)
   back : t (t (t (t a +ℤ t b) +ℤ t c) +ℤ t d) ≡ a +ℤ b +ℤ c +ℤ d
 
-sum_is : (a b c d : ℤ) → nat_abs a ≤ 2 ^ 50 → nat_abs b ≤ 2 ^ 50 → nat_abs c ≤ 2 ^ 50 → nat_abs d ≤ 2 ^ 50 → IsSum a b c d
+sum_is : (a b c d : ℤ) → nat_abs a ≤ 2 ^ 57 → nat_abs b ≤ 2 ^ 57 → nat_abs c ≤ 2 ^ 57 → nat_abs d ≤ 2 ^ 57 → IsSum a b c d
 sum_is a b c d p q r s =
     let fa : FitsSigned w128 a = fits_signed_from_abs w128 a (omega arith) in
     let fb : FitsSigned w128 b = fits_signed_from_abs w128 b (omega arith) in
@@ -22,7 +22,7 @@ sum_is a b c d p q r s =
     let four : FitsSigned w128 (a +ℤ b +ℤ c +ℤ d) = fits_signed_from_abs w128 (a +ℤ b +ℤ c +ℤ d) (omega (arith, ints)) in
     record { four_fits = simp to_z-of_z four; back = simp to_z-of_z refl }
 
-three_fit : (a b c : ℤ) → nat_abs a ≤ 2 ^ 50 → nat_abs b ≤ 2 ^ 50 → nat_abs c ≤ 2 ^ 50 → FitsSigned w128 (t (t a +ℤ t b) +ℤ t c)
+three_fit : (a b c : ℤ) → nat_abs a ≤ 2 ^ 57 → nat_abs b ≤ 2 ^ 57 → nat_abs c ≤ 2 ^ 57 → FitsSigned w128 (t (t a +ℤ t b) +ℤ t c)
 three_fit a b c p q r =
     let fa : FitsSigned w128 a = fits_signed_from_abs w128 a (omega arith) in
     let fb : FitsSigned w128 b = fits_signed_from_abs w128 b (omega arith) in
@@ -31,12 +31,12 @@ three_fit a b c p q r =
     let three : FitsSigned w128 (a +ℤ b +ℤ c) = fits_signed_from_abs w128 (a +ℤ b +ℤ c) (omega (arith, ints)) in
     simp to_z-of_z three
 
-sum_most : (a b c d : ℤ) (l k : ℕ) → nat_abs a ≤ l * l * l * 2 ^ 20 → nat_abs b ≤ 3 * (l * l * k) * 2 ^ 20
-    → nat_abs c ≤ 3 * (l * k * k) * 2 ^ 20 → nat_abs d ≤ k * k * k * 2 ^ 20
-    → nat_abs (a +ℤ b +ℤ c +ℤ d) ≤ (l + k) * (l + k) * (l + k) * 2 ^ 20
+sum_most : (a b c d : ℤ) (l k : ℕ) → nat_abs a ≤ l * l * l * 2 ^ 27 → nat_abs b ≤ 3 * (l * l * k) * 2 ^ 27
+    → nat_abs c ≤ 3 * (l * k * k) * 2 ^ 27 → nat_abs d ≤ k * k * k * 2 ^ 27
+    → nat_abs (a +ℤ b +ℤ c +ℤ d) ≤ (l + k) * (l + k) * (l + k) * 2 ^ 27
 sum_most a b c d l k p q r s = omega (arith, ints)
 
-term : (z p : ℤ) (w v : ℕ) → z ≡ pos w *ℤ t p → w ≡ v → nat_abs p ≤ 2 ^ 20 → z ≡ pos v *ℤ p
+term : (z p : ℤ) (w v : ℕ) → z ≡ pos w *ℤ t p → w ≡ v → nat_abs p ≤ 2 ^ 27 → z ≡ pos v *ℤ p
 term z p w v e f h = e ∙ ap₂ (λ (m : ℕ) (q : ℤ). pos m *ℤ q) f (back_128 p (omega arith))
 
 known : (c : After-times-4) → IsSum c.times.result c.times-2.result c.times-3.result c.times-4.result

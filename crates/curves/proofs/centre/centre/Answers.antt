@@ -15,21 +15,21 @@ use Rattle.curves.proofs.centre.centre.Goals.{After-part-2}
 -- the numbers that the centre is computed from
 record IsKnown (b c : Spot) (x k l : ℤ) : Type 0 where
   twice : IsMultiple 2 x
-  size : nat_abs x ≤ 2 ^ 43
+  size : nat_abs x ≤ 2 ^ 57
   twice_is : t (pos 2 *ℤ t x) ≡ pos 2 *ℤ cross b c
-  first_size : nat_abs k ≤ 2 ^ 43
-  second_size : nat_abs l ≤ 2 ^ 43
+  first_size : nat_abs k ≤ 2 ^ 57
+  second_size : nat_abs l ≤ 2 ^ 57
   first : t k ≡ pos (square_of b)
   second : t l ≡ pos (square_of c)
 
-known : (b c : Spot) (x k l : ℤ) → IsWithin (2 ^ 21) b → IsWithin (2 ^ 21) c → x ≡ cross b c → k ≡ pos (square_of b) → l ≡ pos (square_of c) → IsKnown b c x k l
+known : (b c : Spot) (x k l : ℤ) → IsWithin (2 ^ 28) b → IsWithin (2 ^ 28) c → x ≡ cross b c → k ≡ pos (square_of b) → l ≡ pos (square_of c) → IsKnown b c x k l
 known b c x k l p q e f g =
-    let s : nat_abs x ≤ 2 ^ 43 = rw e (cross_within b c (2 ^ 21) (2 ^ 21) p q) in
-    let m = multiple 2 (2 ^ 43) x (omega arith) s (omega arith) in
-    let i : square_of b ≤ 2 ^ 43 = square_within b (2 ^ 21) p in
-    let j : square_of c ≤ 2 ^ 43 = square_within c (2 ^ 21) q in
-    let n : nat_abs k ≤ 2 ^ 43 = rw f i in
-    let o : nat_abs l ≤ 2 ^ 43 = rw g j in
+    let s : nat_abs x ≤ 2 ^ 57 = rw e (cross_within b c (2 ^ 28) (2 ^ 28) p q) in
+    let m = multiple 2 (2 ^ 57) x (omega arith) s (omega arith) in
+    let i : square_of b ≤ 2 ^ 57 = square_within b (2 ^ 28) p in
+    let j : square_of c ≤ 2 ^ 57 = square_within c (2 ^ 28) q in
+    let n : nat_abs k ≤ 2 ^ 57 = rw f i in
+    let o : nat_abs l ≤ 2 ^ 57 = rw g j in
     record {
       twice = m;
       size = s;
@@ -42,8 +42,8 @@ known b c x k l p q e f g =
 
 pub overflow_mul-twice : goal.overflow_mul-twice
 overflow_mul-twice c =
-    let s : nat_abs c.cross-twice.result ≤ 2 ^ 43 = rw c.cross-twice.ensures (cross_within c.args.b c.args.c (2 ^ 21) (2 ^ 21) c.requires.b_in c.requires.c_in) in
-    let m = multiple 2 (2 ^ 43) c.cross-twice.result (omega arith) s (omega arith) in
+    let s : nat_abs c.cross-twice.result ≤ 2 ^ 57 = rw c.cross-twice.ensures (cross_within c.args.b c.args.c (2 ^ 28) (2 ^ 28) c.requires.b_in c.requires.c_in) in
+    let m = multiple 2 (2 ^ 57) c.cross-twice.result (omega arith) s (omega arith) in
     m.fits
 
 pub part-requires-clause-twice_in : goal.part-requires-clause-twice_in

@@ -2,6 +2,7 @@ use Rattle.std.proofs.Common.{refl, ◌≡◌, ◌∙◌, ap, sym, true, List, m
 use Rattle.exact.specs.declared.spot.Spot.{Spot}
 use Rattle.hpgl_plot.specs.Machine.{seen, travelled, travelled_all}
 use Rattle.hpgl_plot.proofs.Polylines.{lines_more, lines_out}
+use Rattle.hpgl_plot.proofs.Sound.{as_far}
 use Rattle.hpgl_plot.proofs.Travels.{stopped, travelled_keeps}
 use Rattle.full_plot.specs.Texts.{line_at}
 use Rattle.full_plot.proofs.ink.ink.Goals as goal
@@ -30,7 +31,7 @@ strokes-preserved c =
     let n = travelled_keeps w v true (line_at start s) c.in_ok-ink_stroke.ensures in
     let i = c.strokes.invariant in
     record {
-      kept = record { page_is = n.page_is ∙ i.kept.page_is; state_is = n.state_is ∙ i.kept.state_is };
+      kept = record { page_is = n.page_is ∙ i.kept.page_is; range_is = n.range_is ∙ i.kept.range_is; state_is = n.state_is ∙ i.kept.state_is };
       same = sym (lines_more w v true (line_at start s) rest c.in_ok-ink_stroke.ensures)
           ∙ sym (ap (λ (ss : List (Spot × Spot)). travelled_all w true (map (line_at start) ss)) c.in-Some.ensures.taken) ∙ i.same;
     }
@@ -42,7 +43,9 @@ returns c =
     sym c.strokes.invariant.same ∙ ap (λ (ss : List (Spot × Spot)). travelled_all w true (map (line_at start) ss)) (c.in_default.ensures.none refl)
 
 pub ink_stroke-requires-clause-start_in : goal.ink_stroke-requires-clause-start_in
-ink_stroke-requires-clause-start_in c = c.args.plotter.now.sound.place
+ink_stroke-requires-clause-start_in c =
+    let sound = c.args.plotter.now.sound in
+    as_far _ c.args.plotter.now.state.place sound.range_in sound.place
 
 pub ink_stroke-requires-clause-from_in : goal.ink_stroke-requires-clause-from_in
 ink_stroke-requires-clause-from_in c = c.in-Some.ensures.within.from_in

@@ -17,7 +17,7 @@ is_part c =
     let e = simp to_z-of_z at c.from.ensures in
     simp to_z-of_z at (rw (e, c.from-2.ensures) at c.rounded.ensures)
 
-part_in : (c : After-from-3) → nat_abs c.rounded.result ≤ 655360
+part_in : (c : After-from-3) → nat_abs c.rounded.result ≤ 5242880
 part_in c =
     let k = page_part_in c.args.percent c.args.side c.requires.percent_in c.requires.side_in in
     rw (is_part c) k.most
@@ -28,7 +28,7 @@ record AreNumbers (c : After-from-3) : Type 0 where
   part_fits : FitsSigned w64 c.rounded.result
   corner_fits : FitsSigned w64 c.from-3.result
   difference_fits : FitsSigned w64 (c.rounded.result -ℤ c.from-3.result)
-  most : nat_abs (c.rounded.result -ℤ c.from-3.result) ≤ 1048576
+  most : nat_abs (c.rounded.result -ℤ c.from-3.result) ≤ 8388608
 
 numbers : (c : After-from-3) → AreNumbers c
 numbers c =

@@ -14,14 +14,14 @@ record IsKnown (a b n : ℤ) : Type 0 where
   b_fits : FitsSigned w128 b
   way_fits : FitsSigned w128 (b -ℤ a)
   t_fits : FitsSigned w128 n
-  product_in : nat_abs ((b -ℤ a) *ℤ n) ≤ 2 ^ 21 * 2 ^ 30
+  product_in : nat_abs ((b -ℤ a) *ℤ n) ≤ 2 ^ 28 * 2 ^ 37
   product_fits : FitsSigned w128 ((b -ℤ a) *ℤ n)
 
-known : (a b n : ℤ) (t : ℕ) → nat_abs a ≤ 2 ^ 20 → nat_abs b ≤ 2 ^ 20 → n ≡ pos t → t ≤ 2 ^ 30 → IsKnown a b n
+known : (a b n : ℤ) (t : ℕ) → nat_abs a ≤ 2 ^ 27 → nat_abs b ≤ 2 ^ 27 → n ≡ pos t → t ≤ 2 ^ 37 → IsKnown a b n
 known a b n t ha hb e h =
-    let way : nat_abs (b -ℤ a) ≤ 2 ^ 21 = omega (arith, ints) in
-    let t_in : nat_abs n ≤ 2 ^ 30 = omega (arith, ints) in
-    let m = product_within (b -ℤ a) n (2 ^ 21) (2 ^ 30) way t_in in
+    let way : nat_abs (b -ℤ a) ≤ 2 ^ 28 = omega (arith, ints) in
+    let t_in : nat_abs n ≤ 2 ^ 37 = omega (arith, ints) in
+    let m = product_within (b -ℤ a) n (2 ^ 28) (2 ^ 37) way t_in in
     record {
       a_fits = omega (arith, ints);
       b_fits = omega (arith, ints);
@@ -55,11 +55,11 @@ is_share c =
     let e = simp to_z-of_z at c.rounded.ensures in
     e ∙ ap₂ (λ (x y : ℤ). round (quotient ((c.args.b -ℤ c.args.a) *ℤ x) y)) c.from.ensures c.from-2.ensures
 
-share_most : (c : After-rounded) → nat_abs (share_of_line (c.args.b -ℤ c.args.a) c.args.t c.args.long) ≤ 2 ^ 21
+share_most : (c : After-rounded) → nat_abs (share_of_line (c.args.b -ℤ c.args.a) c.args.t c.args.long) ≤ 2 ^ 28
 share_most c =
     let ha = c.requires.a_in in
     let hb = c.requires.b_in in
-    share_within (c.args.b -ℤ c.args.a) (2 ^ 21) c.args.t c.args.long c.requires.above c.requires.t_in (omega (arith, ints))
+    share_within (c.args.b -ℤ c.args.a) (2 ^ 28) c.args.t c.args.long c.requires.above c.requires.t_in (omega (arith, ints))
 
 pub overflow_add-result : goal.overflow_add-result
 overflow_add-result c =
@@ -67,7 +67,7 @@ overflow_add-result c =
     let m = share_most c in
     let ha = c.requires.a_in in
     let a : FitsSigned w128 c.args.a = omega (arith, ints) in
-    let n : nat_abs c.rounded.result ≤ 2 ^ 21 = rw e m in
+    let n : nat_abs c.rounded.result ≤ 2 ^ 28 = rw e m in
     let r : FitsSigned w128 c.rounded.result = omega (arith, ints, n) in
     simp to_z-of_z (omega (arith, ints, n))
 
@@ -77,7 +77,7 @@ returns c =
     let m = share_most c in
     let ha = c.requires.a_in in
     let a : FitsSigned w128 c.args.a = omega (arith, ints) in
-    let n : nat_abs c.rounded.result ≤ 2 ^ 21 = rw e m in
+    let n : nat_abs c.rounded.result ≤ 2 ^ 28 = rw e m in
     let r : FitsSigned w128 c.rounded.result = omega (arith, ints, n) in
     let s : FitsSigned w128 (c.args.a +ℤ c.rounded.result) = omega (arith, ints, n) in
     simp to_z-of_z (ap (λ (z : ℤ). c.args.a +ℤ z) e)

@@ -2,4 +2,4 @@ use Rattle.page_fit.proofs.Seen.{lie_on_the_page}
 use Rattle.page_fit.proofs.laws.seen_strokes_lie_on_the_page.Goals as goal
 
 pub returns : goal.returns
-returns c pens margin on around strokes e is sides = lie_on_the_page pens margin on around strokes e is sides
+returns c pens longest margin on around strokes e is sides = lie_on_the_page pens longest margin on around strokes e is sides

@@ -5,6 +5,7 @@ use Rattle.labels.specs.Labels.{LabelShape}
 use Rattle.labels.specs.Sheets.{all_counted, count_to, labels_to}
 use Rattle.areas.specs.Views.{areas_in}
 use Rattle.pdf.specs.Documents.{page_areas, sheet_labels, sheets}
+use Rattle.pdf.specs.Units.{unit_of}
 use Rattle.pdf.proofs.AddedObjects.{nothing_added}
 use Rattle.pdf.proofs.AddedPages.{all_follow, next_follows, page_more}
 use Rattle.pdf.proofs.LabelLists.{count_drop, count_take, letters_parts}
@@ -53,7 +54,7 @@ loop-index-preserved g c =
       follows = next_follows view.page.now view.pens.now (sheets strokes 0 ends) (page_areas areas 0 ends) (sheet_labels (all_counted before view.labels.now) 0 ends) strokes c.between.result.now areas left
           (all_counted l.from (all_counted before here)) (all_counted before others) l.from end (drop i ends) (drop (i + 1) ends) streams page.stream
           l.invariant.follows (next_at ends i c.loop-index-test.true) c.between.ensures shown after page.reads;
-      added = page_more streams page.stream l.invariant.added page.adds (ap (λ (k : ℕ). c.args.before + 3 * k) (sym l.invariant.count));
+      added = page_more (unit_of view.page.now) streams page.stream l.invariant.added page.adds (ap (λ (k : ℕ). c.args.before + 3 * k) (sym l.invariant.count));
       count = omega (arith, length-append streams (page.stream ∷ []), l.invariant.count);
       letters = omega (arith, letters_parts count l.rest.now here others front back, l.invariant.letters);
       from = omega (arith, ints, c.type_inv.ends i);

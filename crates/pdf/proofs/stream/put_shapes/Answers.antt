@@ -18,7 +18,7 @@ loop-stroke-init g c =
     let strokes = sheet.strokes.now in
     record {
       remains = next_filled (all_remain c.requires.open
-          ((λ i. head_text ++ steps_text page (c.new-path.ensures i) (members_from pens (c.new-roles.ensures i) strokes)) ∙ whole page pens sheet.areas sheet.from strokes)) c.put.ensures.fills refl;
+          ((λ i. head_text page ++ steps_text page (c.new-path.ensures i) (members_from pens (c.new-roles.ensures i) strokes)) ∙ whole page pens sheet.areas sheet.from strokes)) c.put_head.ensures.fills refl;
       before = ap (λ (r : Roles). r.before) c.new-roles.ensures ∙ (let e : sheet.from ≡ sheet.from + 0 = omega arith in e);
     }
 

@@ -15,7 +15,7 @@ record Fits (a b t : ℤ) : Type 0 where
   product : FitsSigned w128 ((b -ℤ a) *ℤ t)
   most : nat_abs ((b -ℤ a) *ℤ t) ≤ 2 ^ 125
 
-fits : (a b t u : ℤ) → IsPart t u → nat_abs a ≤ 2 ^ 20 → nat_abs b ≤ 2 ^ 20 → Fits a b t
+fits : (a b t u : ℤ) → IsPart t u → nat_abs a ≤ 2 ^ 27 → nat_abs b ≤ 2 ^ 27 → Fits a b t
 fits a b t u part ha hb =
     let m = share_product a b t u part ha hb in
     record {
@@ -47,7 +47,7 @@ is_share c =
     let r = fits c.args.a c.args.b c.args.t c.args.u c.requires.part c.requires.a_in c.requires.b_in in
     let e : c.divided.result ≡ share_of_distance (c.args.b -ℤ c.args.a) c.args.t c.args.u =
     simp (to_z-of_z, r.from, r.to, r.way, r.product, c.ranges.t, c.ranges.u) at c.divided.ensures in
-    let n : nat_abs c.divided.result ≤ 2 ^ 21 = rw e (share_within c.args.a c.args.b c.args.t c.args.u c.requires.part c.requires.a_in c.requires.b_in) in
+    let n : nat_abs c.divided.result ≤ 2 ^ 28 = rw e (share_within c.args.a c.args.b c.args.t c.args.u c.requires.part c.requires.a_in c.requires.b_in) in
     record { is = e; fits = omega (arith, ints, n); sum_fits = omega (arith, ints, n, c.requires.a_in) }
 
 pub overflow_add-result : goal.overflow_add-result
@@ -56,7 +56,7 @@ overflow_add-result c = let s = is_share c in simp (to_z-of_z, c.ranges.a, s.fit
 pub returns : goal.returns
 returns c =
     let s = is_share c in
-    let most = moved_within c.args.a c.args.b c.args.t c.args.u (2 ^ 20) c.requires.part c.requires.a_in c.requires.b_in in
+    let most = moved_within c.args.a c.args.b c.args.t c.args.u (2 ^ 27) c.requires.part c.requires.a_in c.requires.b_in in
     record {
       value = simp (to_z-of_z, c.ranges.a, s.fits, s.sum_fits) (ap (λ (z : ℤ). c.args.a +ℤ z) s.is);
       most = simp (to_z-of_z, c.ranges.a, s.fits, s.sum_fits) (rw s.is most);

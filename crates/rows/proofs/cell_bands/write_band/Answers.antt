@@ -27,7 +27,7 @@ loop-i-preserved g c =
     let next = written_next _ _ _ _ _ _ all (row_bytes c.args.form (c.first.result + i) inks c.within-cells.result) rest (c.loop-i.written - c.args.done) split inv.within inv.so_far inv.quiet c.in-Ok.ensures.writes in
     let count : c.in-Ok.bytes ≡ length (row_bytes c.args.form (c.first.result + i) inks c.within-cells.result) = c.in-Ok.ensures.count in
     let moved : c.loop-i.written + c.in-Ok.bytes - c.args.done ≡ c.loop-i.written - c.args.done + length (row_bytes c.args.form (c.first.result + i) inks c.within-cells.result) = omega (arith, inv.from, count) in
-    let narrow : length c.within-cells.result ≤ 77405 = rw (c.within-cells.ensures, c.row.ensures) (c.requires.columns i [] lt) in
+    let narrow : length c.within-cells.result ≤ 619238 = rw (c.within-cells.ensures, c.row.ensures) (c.requires.columns i [] lt) in
     let P : ℕ → Type 0 = λ n. Appends (g.K.Sink.state c.args.sink.now).held (g.K.Sink.state c.put_row.new.sink).held (take n all) in
     record {
       rest = ap (λ (n : ℕ). drop n all) moved ∙ next.2;

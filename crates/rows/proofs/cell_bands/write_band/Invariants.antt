@@ -16,6 +16,6 @@ invariant-loop-i g l =
       so_far : Appends (g.K.Sink.state l.fn.sink).held (g.K.Sink.state l.sink).held (take (l.written - l.done) all);
       within : l.written - l.done ≤ length all;
       from : l.done ≤ l.written;
-      small : l.written ≤ l.done + l.i * 4194304;
+      small : l.written ≤ l.done + l.i * 33554432;
       quiet : (g.K.Sink.state l.sink).faults ≡ (g.K.Sink.state l.fn.sink).faults;
     }

@@ -15,7 +15,7 @@ invariant-loop-i g l =
     record {
       so_far : (row : ℕ → List ℕ) → ((k : ℕ) → k < length rows → row (at + k) ≡ packed_samples depth (numbers_bytes depth columns) (map (number_of l.numbers) (get_or rows k [])))
           → WritesRows row l.first at (at + l.i) l.done (g.K.Sink.state l.fn.sink) (g.K.Sink.state l.sink) (Ok l.written);
-      small : l.written ≤ l.done + l.i * 4194304;
+      small : l.written ≤ l.done + l.i * 33554432;
       quiet : (g.K.Sink.state l.sink).faults ≡ (g.K.Sink.state l.fn.sink).faults;
       depth : l.bytes.depth ≡ depth;
       columns : l.bytes.columns ≡ columns;

@@ -16,7 +16,7 @@ invariant-loop-i g l =
     let bytes = λ (k : ℕ). layout_bytes old.layout (map (smoothed (times_of old.pixels) (colours_of_cells (inks_held old.inks) (rows_of_band l.band)) k) (range_with_len 0 (width_of old.pixels))) in
     record {
       so_far : (row : ℕ → List ℕ) → ((k : ℕ) → k < l.count → row (l.at + k) ≡ bytes k) → WritesRows row l.first l.at (l.at + l.i) l.done (g.K.Sink.state l.fn.sink) (g.K.Sink.state l.sink) (Ok l.written);
-      small : l.written ≤ l.done + l.i * 4194304;
+      small : l.written ≤ l.done + l.i * 33554432;
       quiet : (g.K.Sink.state l.sink).faults ≡ (g.K.Sink.state l.fn.sink).faults;
       inks : l.smoother.inks ≡ old.inks;
       layout : l.smoother.layout ≡ old.layout;

@@ -14,8 +14,8 @@ invariant-each g l =
       next : g.B.Bands.next l.bands ≡ l.at;
       from : first ≤ l.at;
       to : l.at ≤ l.end;
-      most : l.end ≤ 77405;
-      small : l.written ≤ 128 + l.at * 4194304;
+      most : l.end ≤ 619238;
+      small : l.written ≤ 128 + l.at * 33554432;
       same : g.G.Gauge.reaches l.gauge ≡ g.G.Gauge.reaches l.fn.gauge;
       told : WasTold g.W.Watcher.hears (l.end - l.first) l.fn.watcher (l.at - l.first) l.watcher;
       tests : g.G.Gauge.count l.gauge + g.B.Bands.tests l.bands ≤ g.G.Gauge.count l.fn.gauge + g.B.Bands.tests l.fn.bands;

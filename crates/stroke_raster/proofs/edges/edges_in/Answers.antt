@@ -1,5 +1,5 @@
 use Rattle.std.proofs.Common.{rules, ◌≡◌, ℕ, ◌+◌, ◌-◌, ◌*◌, ◌<◌, ◌≤◌, ◌^◌, arith, refl, ap, ap₂, subst, ◌∙◌, true, false, ℤ, pos, ◌+ℤ◌, ◌*ℤ◌, ◌≤ℤ◌, ◌<ℤ◌, nat_abs, FitsSigned, to_z, of_z}
-use mir.Syntax.{w64}
+use mir.Syntax.{w64, w128}
 use Rattle.std.specs.Int.Signed.{lt_z}
 use Rattle.std.proofs.lemmas.Int.{ints, to_z-of_z}
 use Rattle.stroke_raster.specs.declared.edges.Edges.{Edges}
@@ -10,21 +10,42 @@ use Rattle.stroke_raster.proofs.GapLemmas.{size, size_is}
 use Rattle.stroke_raster.proofs.EdgeLemmas.{Made, edges_made, some_map}
 use Rattle.stroke_raster.proofs.edges.edges_in.Goals as goal
 
-pub turned-beside-requires : goal.turned-beside-requires
-turned-beside-requires c = omega (arith, ints, c.cross_product.ensures.small)
+pub wide_turned-beside-requires : goal.wide_turned-beside-requires
+wide_turned-beside-requires c =
+    let f : FitsSigned w128 c.wide_cross.result = search rules in
+    let g : FitsSigned w128 (pos 2 *ℤ c.wide_cross.result) = omega (arith, ints, c.wide_cross.ensures.small) in
+    simp to_z-of_z (omega (arith, ints, c.wide_cross.ensures.small))
+
+-- the numbers fit
+sum_small : (a b x m : ℤ) → nat_abs a ≡ nat_abs (pos 2 *ℤ x) → nat_abs x ≤ 2 ^ 69 → b ≡ m → nat_abs m ≤ 2 ^ 54 → nat_abs (a +ℤ b) ≤ 2 ^ 71
+sum_small a b x m e h f k = omega (arith, ints, e, h, f, k)
+
+small_fits : (z : ℤ) → nat_abs z ≤ 2 ^ 71 → FitsSigned w128 z
+small_fits z h = omega (arith, ints, h)
 
 pub overflow_add-beside : goal.overflow_add-beside
 overflow_add-beside c =
-    let e : nat_abs c.turned-beside.result ≤ 2 ^ 57 = omega (arith, ints, c.turned-beside.ensures.small, c.cross_product.ensures.small) in
-    omega (arith, ints, e, c.args.trace.now.sound.slope_is.most_in)
+    let f : FitsSigned w128 c.wide_cross.result = search rules in
+    let g : FitsSigned w128 (pos 2 *ℤ c.wide_cross.result) = omega (arith, ints, c.wide_cross.ensures.small) in
+    let h : FitsSigned w64 c.args.trace.now.slope.most = omega (arith, ints, c.args.trace.now.sound.slope_is.most_in) in
+    let i : FitsSigned w128 c.wide_turned-beside.result = search rules in
+    let m = simp to_z-of_z at c.from-2.ensures in
+    let t = simp to_z-of_z at c.wide_turned-beside.ensures.small in
+    let j : FitsSigned w128 c.from-2.result = search rules in
+    simp to_z-of_z (small_fits _ (sum_small c.wide_turned-beside.result c.from-2.result c.wide_cross.result c.args.trace.now.slope.most t c.wide_cross.ensures.small m c.args.trace.now.sound.slope_is.most_in))
 
 pub place_of-requires-clause-z_in : goal.place_of-requires-clause-z_in
 place_of-requires-clause-z_in c =
-    let e : nat_abs c.turned-beside.result ≤ 2 ^ 57 = omega (arith, ints, c.turned-beside.ensures.small, c.cross_product.ensures.small) in
-    let i : FitsSigned w64 c.turned-beside.result = search rules in
+    let f : FitsSigned w128 c.wide_cross.result = search rules in
+    let g : FitsSigned w128 (pos 2 *ℤ c.wide_cross.result) = omega (arith, ints, c.wide_cross.ensures.small) in
     let h : FitsSigned w64 c.args.trace.now.slope.most = omega (arith, ints, c.args.trace.now.sound.slope_is.most_in) in
-    let k : FitsSigned w64 (c.turned-beside.result +ℤ c.args.trace.now.slope.most) = omega (arith, ints, e, c.args.trace.now.sound.slope_is.most_in) in
-    simp to_z-of_z (omega (arith, ints, e, c.args.trace.now.sound.slope_is.most_in))
+    let i : FitsSigned w128 c.wide_turned-beside.result = search rules in
+    let m = simp to_z-of_z at c.from-2.ensures in
+    let t = simp to_z-of_z at c.wide_turned-beside.ensures.small in
+    let j : FitsSigned w128 c.from-2.result = search rules in
+    let s = sum_small c.wide_turned-beside.result c.from-2.result c.wide_cross.result c.args.trace.now.slope.most t c.wide_cross.ensures.small m c.args.trace.now.sound.slope_is.most_in in
+    let k : FitsSigned w128 (c.wide_turned-beside.result +ℤ c.from-2.result) = small_fits _ s in
+    simp to_z-of_z s
 
 pub returns-clause-rows : goal.returns-clause-rows
 returns-clause-rows c = some_map Edges c.fitted.result _ _ (λ e f. f.rows_is) c.fitted.ensures
@@ -75,26 +96,25 @@ turn_of c =
     let vd = simp to_z-of_z at c.turned-drift.ensures.value in
     to_z-of_z w64 c.turned-drift.result fd ∙ vd
 
-beside_of : (c : goal.After-fitted) → to_z w64 (of_z w64 (to_z w64 (of_z w64 c.turned-beside.result) +ℤ to_z w64 (of_z w64 c.args.trace.now.slope.most)))
+beside_of : (c : goal.After-fitted) → to_z w128 (of_z w128 (to_z w128 (of_z w128 c.wide_turned-beside.result) +ℤ to_z w128 (of_z w128 c.from-2.result)))
     ≡ turned c.args.trace.now (pos 2 *ℤ cross c.args.trace.now.course (way_to c.args.trace.now c.args.page.now c.args.rows.low c.args.from)) +ℤ c.args.trace.now.slope.most
 beside_of c =
-    let p = c.args.trace.now.sound.slope_is.most_in in
     let cx = c.args.trace.now.sound.course_in in
-    let f : FitsSigned w64 c.cross_product.result = search rules in
-    let g : FitsSigned w64 (pos 2 *ℤ c.cross_product.result) = omega (arith, ints, c.cross_product.ensures.small) in
-    let h : FitsSigned w64 c.args.trace.now.slope.most = omega (arith, ints, p) in
-    let i : FitsSigned w64 c.turned-beside.result = search rules in
+    let f : FitsSigned w128 c.wide_cross.result = search rules in
+    let g : FitsSigned w128 (pos 2 *ℤ c.wide_cross.result) = omega (arith, ints, c.wide_cross.ensures.small) in
+    let h : FitsSigned w64 c.args.trace.now.slope.most = omega (arith, ints, c.args.trace.now.sound.slope_is.most_in) in
+    let i : FitsSigned w128 c.wide_turned-beside.result = search rules in
     let fy : FitsSigned w64 c.args.trace.now.course.y = omega (arith, ints, cx.y) in
-    let e = simp to_z-of_z at c.turned-beside.ensures.small in
-    let vb = simp to_z-of_z at c.turned-beside.ensures.value in
-    let k : FitsSigned w64 (c.turned-beside.result +ℤ c.args.trace.now.slope.most) = sum_fits c.turned-beside.result c.args.trace.now.slope.most (pos 2 *ℤ c.cross_product.result) e (omega (arith, ints, c.cross_product.ensures.small)) p in
+    let m = simp to_z-of_z at c.from-2.ensures in
+    let t = simp to_z-of_z at c.wide_turned-beside.ensures.small in
+    let vb = simp to_z-of_z at c.wide_turned-beside.ensures.value in
+    let j : FitsSigned w128 c.from-2.result = search rules in
+    let s = sum_small c.wide_turned-beside.result c.from-2.result c.wide_cross.result c.args.trace.now.slope.most t c.wide_cross.ensures.small m c.args.trace.now.sound.slope_is.most_in in
+    let k : FitsSigned w128 (c.wide_turned-beside.result +ℤ c.from-2.result) = small_fits _ s in
     let w : c.way_between-start.result ≡ way_to c.args.trace.now c.args.page.now c.args.rows.low c.args.from = c.way_between-start.ensures ∙ ap₂ way c.args.trace.now.sound.first_is c.centre_of.ensures.value in
-    let x : c.cross_product.result ≡ cross c.args.trace.now.course (way_to c.args.trace.now c.args.page.now c.args.rows.low c.args.from) = c.cross_product.ensures.value ∙ ap (λ (v : Vector). cross c.args.trace.now.course v) w in
-    let y : c.turned-beside.result ≡ turned c.args.trace.now (pos 2 *ℤ cross c.args.trace.now.course (way_to c.args.trace.now c.args.page.now c.args.rows.low c.args.from)) = vb ∙ ap (λ (z : ℤ). turned c.args.trace.now (pos 2 *ℤ z)) x in
-    simp to_z-of_z (ap (λ (z : ℤ). z +ℤ c.args.trace.now.slope.most) y)
-  where
-    sum_fits : (a b d : ℤ) → nat_abs a ≡ nat_abs d → nat_abs d ≤ 2 ^ 57 → nat_abs b ≤ 2 ^ 56 → FitsSigned w64 (a +ℤ b)
-    sum_fits a b d e h k = omega (arith, ints, e, h, k)
+    let x : c.wide_cross.result ≡ cross c.args.trace.now.course (way_to c.args.trace.now c.args.page.now c.args.rows.low c.args.from) = c.wide_cross.ensures.value ∙ ap (λ (v : Vector). cross c.args.trace.now.course v) w in
+    let y : c.wide_turned-beside.result ≡ turned c.args.trace.now (pos 2 *ℤ cross c.args.trace.now.course (way_to c.args.trace.now c.args.page.now c.args.rows.low c.args.from)) = vb ∙ ap (λ (z : ℤ). turned c.args.trace.now (pos 2 *ℤ z)) x in
+    simp to_z-of_z (ap₂ ◌+ℤ◌ y m)
 
 falling : (z y : ℤ) → z ≡ y → lt_z (pos 0) z ≡ true → pos 0 <ℤ y
 falling z y e h = omega (arith, ints, e, h)

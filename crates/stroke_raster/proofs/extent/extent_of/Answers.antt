@@ -8,23 +8,23 @@ use Rattle.stroke_raster.proofs.extent.extent_of.Goals as goal
 
 pub overflow_sub-top : goal.overflow_sub-top
 overflow_sub-top c =
-    let b : nat_abs c.from-top.result ≤ 2 ^ 31 = rw c.from-top.ensures (top_small c.args.page.now.height c.args.dots.resolution (omega (arith, c.args.page.now.height_in)) c.args.dots.at_most) in
-    let f : FitsSigned w64 c.from-top.result = omega (arith, ints, b) in
-    let g : FitsSigned w64 (pos 2 *ℤ c.from-top.result) = omega (arith, ints, b) in
+    let b : nat_abs c.top_of-top.result ≤ 2 ^ 34 = c.top_of-top.ensures.small in
+    let f : FitsSigned w64 c.top_of-top.result = omega (arith, ints, b) in
+    let g : FitsSigned w64 (pos 2 *ℤ c.top_of-top.result) = omega (arith, ints, b) in
     let h : FitsSigned w64 c.sides_of-y.result.high = omega (arith, ints, c.sides_of-y.ensures.high_small) in
-    let th : FitsSigned w64 (pos 2 *ℤ c.from-top.result -ℤ c.sides_of-y.result.high) = omega (arith, ints, b, c.sides_of-y.ensures.high_small) in
+    let th : FitsSigned w64 (pos 2 *ℤ c.top_of-top.result -ℤ c.sides_of-y.result.high) = omega (arith, ints, b, c.sides_of-y.ensures.high_small) in
     simp to_z-of_z th
 
 pub overflow_sub-top-2 : goal.overflow_sub-top-2
 overflow_sub-top-2 c =
-    let b : nat_abs c.from-top.result ≤ 2 ^ 31 = rw c.from-top.ensures (top_small c.args.page.now.height c.args.dots.resolution (omega (arith, c.args.page.now.height_in)) c.args.dots.at_most) in
-    let f : FitsSigned w64 c.from-top.result = omega (arith, ints, b) in
-    let g : FitsSigned w64 (pos 2 *ℤ c.from-top.result) = omega (arith, ints, b) in
+    let b : nat_abs c.top_of-top.result ≤ 2 ^ 34 = c.top_of-top.ensures.small in
+    let f : FitsSigned w64 c.top_of-top.result = omega (arith, ints, b) in
+    let g : FitsSigned w64 (pos 2 *ℤ c.top_of-top.result) = omega (arith, ints, b) in
     let l : FitsSigned w64 c.sides_of-y.result.low = omega (arith, ints, c.sides_of-y.ensures.low_small) in
-    let tl : FitsSigned w64 (pos 2 *ℤ c.from-top.result -ℤ c.sides_of-y.result.low) = omega (arith, ints, b, c.sides_of-y.ensures.low_small) in
+    let tl : FitsSigned w64 (pos 2 *ℤ c.top_of-top.result -ℤ c.sides_of-y.result.low) = omega (arith, ints, b, c.sides_of-y.ensures.low_small) in
     simp to_z-of_z tl
 
-made : (c : goal.After-places_between-2) → Box c.args.stroke.now c.args.page.now.height c.args.dots.resolution c.sides_of-x.result.low c.sides_of-x.result.high c.sides_of-y.result.low c.sides_of-y.result.high (pos 2 *ℤ c.from-top.result)
+made : (c : goal.After-places_between-2) → Box c.args.stroke.now c.args.page.now.height c.args.dots.resolution c.sides_of-x.result.low c.sides_of-x.result.high c.sides_of-y.result.low c.sides_of-y.result.high (pos 2 *ℤ c.top_of-top.result)
 made c =
     let fx0 : FitsSigned w32 c.stroke.inside.window.x0 = omega (arith, ints, c.stroke.invariant.x0) in
     let fx1 : FitsSigned w32 c.stroke.inside.window.x1 = omega (arith, ints, c.stroke.invariant.x1) in
@@ -43,7 +43,7 @@ made c =
           (subst (λ (s : Segment). c.sides_of-y.result.low ≡ low_side c.args.dots.resolution c.drawn_width_of-d.result s.window.y0 s.ay s.by) c.stroke.view_is (simp to_z-of_z at c.sides_of-y.ensures.low));
       upper_is = subst (λ (d : ℕ). c.sides_of-y.result.high ≡ high_side c.args.dots.resolution d c.args.stroke.now.window.y1 c.args.stroke.now.ay c.args.stroke.now.by) c.drawn_width_of-d.ensures.value
           (subst (λ (s : Segment). c.sides_of-y.result.high ≡ high_side c.args.dots.resolution c.drawn_width_of-d.result s.window.y1 s.ay s.by) c.stroke.view_is (simp to_z-of_z at c.sides_of-y.ensures.high));
-      top_is = ap (λ z. pos 2 *ℤ z) c.from-top.ensures;
+      top_is = ap (λ z. pos 2 *ℤ z) c.top_of-top.ensures.value;
     }
 
 -- the facts before the record let `simp` drop the conversions of numbers that fit
@@ -52,16 +52,16 @@ returns c =
     let stroke = c.args.stroke.now in
     let page = c.args.page.now in
     let dots = c.args.dots in
-    let top = pos 2 *ℤ c.from-top.result in
+    let top = pos 2 *ℤ c.top_of-top.result in
     let x = c.sides_of-x.result in
     let y = c.sides_of-y.result in
-    let b : nat_abs c.from-top.result ≤ 2 ^ 31 = rw c.from-top.ensures (top_small page.height dots.resolution (omega (arith, page.height_in)) dots.at_most) in
-    let f : FitsSigned w64 c.from-top.result = omega (arith, ints, b) in
-    let g : FitsSigned w64 (pos 2 *ℤ c.from-top.result) = omega (arith, ints, b) in
+    let b : nat_abs c.top_of-top.result ≤ 2 ^ 34 = c.top_of-top.ensures.small in
+    let f : FitsSigned w64 c.top_of-top.result = omega (arith, ints, b) in
+    let g : FitsSigned w64 (pos 2 *ℤ c.top_of-top.result) = omega (arith, ints, b) in
     let h : FitsSigned w64 c.sides_of-y.result.high = omega (arith, ints, c.sides_of-y.ensures.high_small) in
     let l : FitsSigned w64 c.sides_of-y.result.low = omega (arith, ints, c.sides_of-y.ensures.low_small) in
-    let th : FitsSigned w64 (pos 2 *ℤ c.from-top.result -ℤ c.sides_of-y.result.high) = omega (arith, ints, b, c.sides_of-y.ensures.high_small) in
-    let tl : FitsSigned w64 (pos 2 *ℤ c.from-top.result -ℤ c.sides_of-y.result.low) = omega (arith, ints, b, c.sides_of-y.ensures.low_small) in
+    let th : FitsSigned w64 (pos 2 *ℤ c.top_of-top.result -ℤ c.sides_of-y.result.high) = omega (arith, ints, b, c.sides_of-y.ensures.high_small) in
+    let tl : FitsSigned w64 (pos 2 *ℤ c.top_of-top.result -ℤ c.sides_of-y.result.low) = omega (arith, ints, b, c.sides_of-y.ensures.low_small) in
     let fl : FitsSigned w64 c.sides_of-x.result.low = omega (arith, ints, c.sides_of-x.ensures.low_small) in
     let fr : FitsSigned w64 c.sides_of-x.result.high = omega (arith, ints, c.sides_of-x.ensures.high_small) in
     let box = made c in

@@ -1,9 +1,9 @@
-use Rattle.std.proofs.Common.{rules, ◌<◌, ◌∙◌, inl, inr, FitsSigned, arith, int_le, pos}
+use Rattle.std.proofs.Common.{rules, ◌<◌, ◌∙◌, true, false, inl, inr, FitsSigned, arith, int_le, pos}
 use mir.Syntax.{w64, w128}
 use Rattle.std.proofs.lemmas.Int.{to_z-of_z}
 use Rattle.std.proofs.lemmas.Bool.{cases_Bool}
 use Rattle.stroke_raster.specs.Gap.{dot}
-use Rattle.stroke_raster.proofs.Scaling.{first_is_near, last_is_near, beside_is_near}
+use Rattle.stroke_raster.proofs.Scaling.{first_is_near, last_is_near, beside_is_near, past_near}
 use Rattle.stroke_raster.proofs.nearness.meets_evenly.Goals as goal
 
 pub returns : goal.returns
@@ -22,7 +22,7 @@ returns c =
     elim (cases_Bool (int_le (dot t.course w) (pos 0))) [
       | inl e ↦ rw e at answer ∙ first_is_near t w c.is_short-first.result some e first
       | inr e ↦ elim (cases_Bool (int_le t.along (dot t.course w))) [
-        | inl f ↦ rw (e, f) at answer ∙ last_is_near t w c.is_short-last.result some e f last
-        | inr f ↦ rw (e, f) at answer ∙ beside_is_near t w c.is_beside-line.result some e f line
+        | inl f ↦ rw (e, f) at answer ∙ last_is_near t w c.is_short-last.result some e (past_near t w true c.requires.near f) last
+        | inr f ↦ rw (e, f) at answer ∙ beside_is_near t w c.is_beside-line.result some e (past_near t w false c.requires.near f) line
       ]
     ]

@@ -8,6 +8,6 @@ abbrev pub invariant-loop-edge : goal.invariant-loop-edge
 invariant-loop-edge l = record {
   low : l.low ≡ lowest (int_min l.stroke.ay l.stroke.by) (take l.edge-index l.edges);
   high : l.high ≡ highest (int_max l.stroke.ay l.stroke.by) (take l.edge-index l.edges);
-  low_near : nat_abs l.low ≤ 2 ^ 20;
-  high_near : nat_abs l.high ≤ 2 ^ 20;
+  low_near : nat_abs l.low ≤ 134217712;
+  high_near : nat_abs l.high ≤ 134217712;
 }

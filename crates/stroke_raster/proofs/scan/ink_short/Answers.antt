@@ -1,4 +1,4 @@
-use Rattle.std.proofs.Common.{◌≡◌, ℕ, ◌+◌, ◌-◌, ◌^◌, ◌<◌, pos, refl, ap, ap₂, ◌∙◌, arith}
+use Rattle.std.proofs.Common.{◌≡◌, ℕ, ◌+◌, ◌-◌, ◌*◌, ◌^◌, ◌<◌, pos, refl, ap, ap₂, ◌∙◌, arith}
 use Rattle.plot_page.specs.Segments.{Segment}
 use Rattle.plot_page.specs.declared.page.Page.{Page}
 use Rattle.plot_page.specs.declared.dots.Dots.{Dots}
@@ -14,12 +14,12 @@ use Rattle.stroke_raster.proofs.scan.ink_short.Goals as goal
 
 pub way_between-start-requires-clause-from_in : goal.way_between-start-requires-clause-from_in
 way_between-start-requires-clause-from_in c =
-    rw c.times-first.ensures (scaled_within c.args.dots.resolution c.first_end_of.result (2 ^ 20) 1200 (2 ^ 40) (omega arith) (omega arith) c.first_end_of.ensures.small)
+    rw c.times-first.ensures (scaled_within c.args.dots.resolution c.first_end_of.result (2 ^ 27) 1200 (2 ^ 40) (omega arith) (omega arith) c.first_end_of.ensures.small)
 
 pub mask_of-mask-requires-clause-start_in : goal.mask_of-mask-requires-clause-start_in
 mask_of-mask-requires-clause-start_in c =
-    let f : Within (2 ^ 31) c.times-first.result = rw c.times-first.ensures (scaled_within c.args.dots.resolution c.first_end_of.result (2 ^ 20) 1200 (2 ^ 31) (omega arith) (omega arith) c.first_end_of.ensures.small) in
-    let w = way_within c.times-first.result c.centre_of.result (2 ^ 31) (2 ^ 31) (2 ^ 32) (omega arith) f c.centre_of.ensures.small in
+    let f : Within (3 * 2 ^ 36) c.times-first.result = rw c.times-first.ensures (scaled_within c.args.dots.resolution c.first_end_of.result (2 ^ 27) 1200 (3 * 2 ^ 36) (omega arith) (omega arith) c.first_end_of.ensures.small) in
+    let w = way_within c.times-first.result c.centre_of.result (3 * 2 ^ 36) (2 ^ 34) (2 ^ 38) (omega arith) f c.centre_of.ensures.small in
     rw c.way_between-start.ensures w
 
 -- the way to the first pixel of a row

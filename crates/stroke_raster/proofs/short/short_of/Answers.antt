@@ -1,6 +1,7 @@
 use Rattle.std.proofs.Common.{rules, ◌≡◌, ◌-◌, ◌*◌, ◌≤◌, ◌^◌, ◌∙◌, refl, ap, ap₂, nat_abs, pos, ◌*ℤ◌, FitsSigned, ℕ, ℤ, arith}
 use mir.Syntax.{w64}
 use Rattle.std.proofs.lemmas.Int.{ints, to_z-of_z}
+use Rattle.std.proofs.lemmas.Nat.{mul-le}
 use Rattle.exact.proofs.Fit.{product_within}
 use Rattle.stroke_raster.specs.declared.vector.Vector.{Vector}
 use Rattle.stroke_raster.specs.Bounds.{Within}
@@ -51,6 +52,17 @@ doubled-requires c =
     let is : v ≡ way (first_end c.args.stroke.now) (last_end c.args.stroke.now) = c.way_between-course.ensures ∙ ap₂ way c.first_end_of.ensures.value c.last_end_of.ensures.value in
     let s : sides v ≤ 2048 = rw is c.requires.course in
     rw c.times.ensures (scaled_within c.args.dots.resolution v c.args.dots.at_most (omega (arith, s)) (omega (arith, s)))
+
+pub overflow_mul-along-2 : goal.overflow_mul-along-2
+overflow_mul-along-2 c =
+    let v = c.way_between-course.result in
+    let f : FitsSigned w64 c.squared_length-squared.result = search rules in
+    let is : v ≡ way (first_end c.args.stroke.now) (last_end c.args.stroke.now) = c.way_between-course.ensures ∙ ap₂ way c.first_end_of.ensures.value c.last_end_of.ensures.value in
+    let s : sides v ≤ 2048 = rw is c.requires.course in
+    let z : nat_abs c.squared_length-squared.result ≤ 4194304 = rw (c.squared_length-squared.ensures.value ∙ size_is v) (size_small v s) in
+    let n = simp to_z-of_z at c.unsigned_abs.ensures.value in
+    let m = mul-le c.from-3.result c.unsigned_abs.result 1200 4194304 (omega (arith, c.from-3.ensures, c.args.dots.at_most)) (omega (arith, n, z)) in
+    omega (arith, m)
 
 pub overflow_cast-result : goal.overflow_cast-result
 overflow_cast-result c =

@@ -7,8 +7,8 @@ use Rattle.stroke_raster.proofs.slope.slope_by.Goals as goal
 pub returns : goal.returns
 returns c =
     let a : nat_abs c.from.result ≤ 2 ^ 24 = rw c.from.ensures c.requires.width_in in
-    let b : nat_abs c.from-2.result ≤ 2 ^ 22 = rw c.from-2.ensures c.requires.length_in in
-    let p = product_within c.from.result c.from-2.result (2 ^ 24) (2 ^ 22) a b in
+    let b : nat_abs c.from-2.result ≤ 2 ^ 30 = rw c.from-2.ensures c.requires.length_in in
+    let p = product_within c.from.result c.from-2.result (2 ^ 24) (2 ^ 30) a b in
     let f : FitsSigned w64 c.from.result = omega (arith, ints, a) in
     let g : FitsSigned w64 c.from-2.result = omega (arith, ints, b) in
     let h : FitsSigned w64 (c.from.result *ℤ c.from-2.result) = omega (arith, ints, p) in

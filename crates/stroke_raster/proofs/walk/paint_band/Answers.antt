@@ -1,4 +1,5 @@
 use Rattle.std.proofs.Common.{◌≡◌, ℕ, ◌+◌, ◌-◌, ◌<◌, ◌≤◌, true, false, nat_lt, length, get_or, take, refl, ap, ◌∙◌, arith}
+use Rattle.std.proofs.lemmas.Nat.{mul-le}
 use Rattle.plot_page.specs.Segments.{Segment}
 use Rattle.stroke_raster.specs.Boxes.{in_box}
 use Rattle.areas.specs.Views.{areas_in}
@@ -49,6 +50,12 @@ slots-init g c =
       most = omega arith;
       grows = omega arith;
     }
+
+pub overflow_add-first : goal.overflow_add-first
+overflow_add-first g c =
+    let page = c.args.scene.now.page in
+    let m = mul-le page.height c.args.scene.now.dots.resolution 524288 1200 (omega (arith, page.height_in)) c.args.scene.now.dots.at_most in
+    omega (arith, m, c.requires.next.rows_in)
 
 pub paint_slot-bottom-requires-clause-room : goal.paint_slot-bottom-requires-clause-room
 paint_slot-bottom-requires-clause-room g c = c.slots.invariant.room c.slots.slot

@@ -1,5 +1,5 @@
 use Rattle.std.proofs.Common.{◌≡◌, pos, ℤ, ◌-ℤ◌, ◌*ℤ◌, refl, ap, arith, rules, FitsSigned}
-use mir.Syntax.{w32, w64}
+use mir.Syntax.{w32, w64, w128}
 use Rattle.std.proofs.lemmas.Int.{ints, to_z-of_z}
 use Rattle.areas.proofs.SweptEdges.{divided_edge}
 use Rattle.areas.proofs.swept_edge.SweptEdge.between.Goals as goal
@@ -44,12 +44,12 @@ overflow_sub-place c =
     let fu : FitsSigned w64 c.difference-run.result = omega (arith, ints, c.difference-run.ensures.within) in
     let fr : FitsSigned w64 c.difference-rise.result = omega (arith, ints, c.difference-rise.ensures.within) in
     let fa : FitsSigned w64 (c.args.height -ℤ c.scaled-2.result) = omega (arith, ints, c.scaled-2.ensures.within, c.requires.near) in
-    let fp : FitsSigned w64 c.place_of-place.result = omega (arith, ints, c.place_of-place.ensures.within) in
-    let fm : FitsSigned w64 (pos 0 -ℤ c.place_of-place.result) = omega (arith, ints, c.place_of-place.ensures.within) in
+    let fp : FitsSigned w128 c.place_of-place.result = omega (arith, ints, c.place_of-place.ensures.within) in
+    let fm : FitsSigned w128 (pos 0 -ℤ c.place_of-place.result) = omega (arith, ints, c.place_of-place.ensures.within) in
     simp to_z-of_z (omega (arith, ints, c.place_of-place.ensures.within))
 
-pub divide_down-before-requires-clause-within : goal.divide_down-before-requires-clause-within
-divide_down-before-requires-clause-within c =
+pub divide_far-before-requires-clause-within : goal.divide_far-before-requires-clause-within
+divide_far-before-requires-clause-within c =
     let fh : FitsSigned w64 c.args.height = search rules in
     let ax : FitsSigned w32 c.args.ax = search rules in
     let ay : FitsSigned w32 c.args.ay = search rules in
@@ -60,12 +60,12 @@ divide_down-before-requires-clause-within c =
     let fu : FitsSigned w64 c.difference-run.result = omega (arith, ints, c.difference-run.ensures.within) in
     let fr : FitsSigned w64 c.difference-rise.result = omega (arith, ints, c.difference-rise.ensures.within) in
     let fa : FitsSigned w64 (c.args.height -ℤ c.scaled-2.result) = omega (arith, ints, c.scaled-2.ensures.within, c.requires.near) in
-    let fp : FitsSigned w64 c.place_of-place.result = omega (arith, ints, c.place_of-place.ensures.within) in
-    let fm : FitsSigned w64 (pos 0 -ℤ c.place_of-place.result) = omega (arith, ints, c.place_of-place.ensures.within) in
+    let fp : FitsSigned w128 c.place_of-place.result = omega (arith, ints, c.place_of-place.ensures.within) in
+    let fm : FitsSigned w128 (pos 0 -ℤ c.place_of-place.result) = omega (arith, ints, c.place_of-place.ensures.within) in
     simp to_z-of_z (omega (arith, ints, c.place_of-place.ensures.within))
 
-pub divide_down-before-requires-clause-above : goal.divide_down-before-requires-clause-above
-divide_down-before-requires-clause-above c =
+pub divide_far-before-requires-clause-above : goal.divide_far-before-requires-clause-above
+divide_far-before-requires-clause-above c =
     let fh : FitsSigned w64 c.args.height = search rules in
     let ax : FitsSigned w32 c.args.ax = search rules in
     let ay : FitsSigned w32 c.args.ay = search rules in
@@ -83,8 +83,8 @@ divide_down-before-requires-clause-above c =
 
 pub overflow_sub-result : goal.overflow_sub-result
 overflow_sub-result c =
-    let ft : FitsSigned w64 c.divide_down-before.result.times = omega (arith, ints, c.divide_down-before.ensures.within) in
-    simp to_z-of_z (omega (arith, ints, c.divide_down-before.ensures.within))
+    let ft : FitsSigned w64 c.divide_far-before.result.times = omega (arith, ints, c.divide_far-before.ensures.within) in
+    simp to_z-of_z (omega (arith, ints, c.divide_far-before.ensures.within))
 
 pub returns : goal.returns
 returns c =
@@ -98,19 +98,19 @@ returns c =
     let fu : FitsSigned w64 c.difference-run.result = omega (arith, ints, c.difference-run.ensures.within) in
     let fr : FitsSigned w64 c.difference-rise.result = omega (arith, ints, c.difference-rise.ensures.within) in
     let fa : FitsSigned w64 (c.args.height -ℤ c.scaled-2.result) = omega (arith, ints, c.scaled-2.ensures.within, c.requires.near) in
-    let fp : FitsSigned w64 c.place_of-place.result = omega (arith, ints, c.place_of-place.ensures.within) in
-    let fm : FitsSigned w64 (pos 0 -ℤ c.place_of-place.result) = omega (arith, ints, c.place_of-place.ensures.within) in
+    let fp : FitsSigned w128 c.place_of-place.result = omega (arith, ints, c.place_of-place.ensures.within) in
+    let fm : FitsSigned w128 (pos 0 -ℤ c.place_of-place.result) = omega (arith, ints, c.place_of-place.ensures.within) in
     let fw : FitsSigned w64 c.pixel_of.result = omega (arith, ints, c.pixel_of.ensures.within) in
     let pixel = simp to_z-of_z at c.pixel_of.ensures.value in
-    let ft : FitsSigned w64 c.divide_down-before.result.times = omega (arith, ints, c.divide_down-before.ensures.within) in
-    let fk : FitsSigned w64 (pos 0 -ℤ c.divide_down-before.result.times) = omega (arith, ints, c.divide_down-before.ensures.within) in
+    let ft : FitsSigned w64 c.divide_far-before.result.times = omega (arith, ints, c.divide_far-before.ensures.within) in
+    let fk : FitsSigned w64 (pos 0 -ℤ c.divide_far-before.result.times) = omega (arith, ints, c.divide_far-before.ensures.within) in
     let run = simp to_z-of_z at c.difference-run.ensures.value in
     let rise = simp to_z-of_z at c.difference-rise.ensures.value in
     let x = simp to_z-of_z at c.scaled.ensures.value in
     let y = simp to_z-of_z at c.scaled-2.ensures.value in
     let place = simp to_z-of_z at c.place_of-place.ensures.value in
     let slope = c.divide_down-slope in
-    let before = c.divide_down-before in
+    let before = c.divide_far-before in
     let fe : FitsSigned w64 before.result.rest = omega (arith, ints, before.ensures.low, before.ensures.high, c.pixel_of.ensures.within) in
     let fg : FitsSigned w64 slope.result.rest = omega (arith, ints, slope.ensures.low, slope.ensures.high, c.difference-rise.ensures.within) in
     let fo : FitsSigned w64 slope.result.times = omega (arith, ints, slope.ensures.within) in

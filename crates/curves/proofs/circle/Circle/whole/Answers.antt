@@ -15,6 +15,6 @@ whole_is a b v f l x y e g h i j = rw (h, g, e, i, j) refl
 
 pub returns-clause-value : goal.returns-clause-value
 returns-clause-value c =
-    let m = multiple 128 (2 ^ 21) c.args.b.x (omega arith) c.requires.b_in.x_in (omega arith) in
-    let n = multiple 128 (2 ^ 21) c.args.b.y (omega arith) c.requires.b_in.y_in (omega arith) in
+    let m = multiple 128 (2 ^ 28) c.args.b.x (omega arith) c.requires.b_in.x_in (omega arith) in
+    let n = multiple 128 (2 ^ 28) c.args.b.y (omega arith) c.requires.b_in.y_in (omega arith) in
     whole_is c.args.a c.args.b _ _ _ _ _ c.turned_against.ensures c.unit_of-first.ensures.value c.turned.ensures m.back n.back

@@ -10,7 +10,7 @@ use Rattle.full_plot.specs.Machine.{seen}
 use Rattle.full_plot.specs.Worlds.{FullWorld}
 use Rattle.full_plot.proofs.Curved.{arc_end_in_range, arc_end_is_placed, ended_at}
 use Rattle.full_plot.proofs.FullRuns.{stopped}
-use Rattle.full_plot.proofs.LinesAlong.{along_in, along_keeps, line_by, solid_runs}
+use Rattle.full_plot.proofs.LinesAlong.{along_in, along_keeps, kept_range, line_by, solid_runs}
 use Rattle.full_plot.proofs.plotter.FullPlotter.arc_along.Goals as goal
 
 pub returns-then-is_solid : goal.returns-then-is_solid
@@ -37,8 +37,10 @@ arrive-requires-clause-place_in c =
     let places : List Spot = c.as_slice.result.now in
     let end = c.in_ok-outline.outline.end in
     let path = c.in_ok-outline.ensures.path ∙ ap (λ (qs : List Spot). along (s.place ∷ qs) s.is_down end) (search rules) in
-    arc_end_in_range w c.args.is_relative c.args.arc places end path
-    (along_in w (seen c.draw_over.new.self) s.is_down (s.place ∷ places) c.in_ok-draw_over.ensures)
+    let v = seen c.draw_over.new.self in
+    kept_range w v end.place (along_keeps w v s.is_down (s.place ∷ places) c.in_ok-draw_over.ensures)
+    (arc_end_in_range w c.args.is_relative c.args.arc places end path
+    (along_in w v s.is_down (s.place ∷ places) c.in_ok-draw_over.ensures))
 
 pub arrive-requires-clause-placed : goal.arrive-requires-clause-placed
 arrive-requires-clause-placed c =

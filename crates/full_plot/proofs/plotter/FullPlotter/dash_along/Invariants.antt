@@ -9,6 +9,6 @@ use Rattle.full_plot.proofs.plotter.FullPlotter.dash_along.Given as goal
 abbrev pub invariant-loop-place : goal.invariant-loop-place
 invariant-loop-place l = record {
   shape : line_shape l.line_type ≡ shape_in (seen l.self);
-  from_in : IsInRange l.from;
+  from_in : IsInRange l.self.plotter.range l.from;
   same : drawn_along (seen l.self) l.draws (l.from ∷ drop l.place-index l.places) ≡ drawn_along (seen l.fn.self) l.draws (l.fn.start ∷ l.places);
 }

@@ -10,4 +10,4 @@ pub keep_dashes-requires : goal.keep_dashes-requires
 keep_dashes-requires c =
     let m = c.measured-measured.result in
     subst (λ (ds : List (Spot × Spot)). All IsDash ds) (sym c.dashes.ensures)
-    (dashes_are_places (line_shape c.args.line_type.now) c.args.self.now.run m.from m.to m.from_in m.to_in)
+    (dashes_are_places (line_shape c.args.line_type.now) c.args.self.now.run m.from m.to c.measured-measured.ensures.from_in c.measured-measured.ensures.to_in)

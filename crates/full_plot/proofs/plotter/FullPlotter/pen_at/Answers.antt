@@ -15,6 +15,6 @@ returns-in_err-begin-clause-runs c =
     let q = c.place_of-place.result in
     let e : q ≡ (curve_pen w c.args.is_relative c.args.point).place =
     c.place_of-place.ensures ∙ ap (λ (u : Spot). place w.core.page w.core.state.frame u) c.target-coordinates.ensures.value in
-    subst (λ (p : Spot). Runs (if_in_range (p ∷ []) (Some w)) w c.from_residual.result) e
-    (core_stopped ⊤ (core.travelled w.core true (q ∷ [])) (if_in_range (q ∷ []) (Some w)) w.core w c.in_err-begin.field-0.0 c.from_residual.result
+    subst (λ (p : Spot). Runs (if_in_range w.core.range (p ∷ []) (Some w)) w c.from_residual.result) e
+    (core_stopped ⊤ (core.travelled w.core true (q ∷ [])) (if_in_range w.core.range (q ∷ []) (Some w)) w.core w c.in_err-begin.field-0.0 c.from_residual.result
     (out_of_range w q) (c.in_err-begin.ensures.runs true) c.from_residual.ensures.1)

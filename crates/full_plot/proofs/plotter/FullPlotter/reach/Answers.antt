@@ -4,7 +4,7 @@ use Rattle.hpgl_plot.specs.Machine as core
 use Rattle.full_plot.specs.Machine.{seen}
 use Rattle.full_plot.specs.Polygons.{reached}
 use Rattle.full_plot.proofs.Curved.{reached_out}
-use Rattle.full_plot.proofs.LinesAlong.{core_stopped, rest_in_range, travelled_in}
+use Rattle.full_plot.proofs.LinesAlong.{core_stopped, rest_far, travelled_in}
 use Rattle.full_plot.proofs.plotter.FullPlotter.reach.Goals as goal
 
 pub returns-in_err-travel : goal.returns-in_err-travel
@@ -18,4 +18,4 @@ pub reach_places-requires : goal.reach_places-requires
 reach_places-requires c =
     let w = seen c.args.self.now in
     let places = c.args.places.now in
-    rest_in_range w.core.state.place places (travelled_in w.core (core.seen c.travel.new.self) false (w.core.state.place ∷ places) c.in_ok-travel.ensures)
+    rest_far w.core.range w.core.state.place places c.args.self.now.plotter.sound.range_in (travelled_in w.core (core.seen c.travel.new.self) false (w.core.state.place ∷ places) c.in_ok-travel.ensures)

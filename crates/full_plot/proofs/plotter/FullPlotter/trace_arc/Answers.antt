@@ -11,6 +11,7 @@ use Rattle.full_plot.specs.Polygons.{trace_step}
 use Rattle.full_plot.specs.Worlds.{FullWorld}
 use Rattle.full_plot.proofs.Curved.{arc_end_in_range, arc_end_is_placed, arc_traced, ended_at, traced_in, traced_keeps}
 use Rattle.full_plot.proofs.FullRuns.{stopped}
+use Rattle.full_plot.proofs.LinesAlong.{kept_range}
 use Rattle.full_plot.proofs.plotter.FullPlotter.trace_arc.Goals as goal
 
 pub returns-in_err-trace_over : goal.returns-in_err-trace_over
@@ -32,8 +33,9 @@ arrive-requires-clause-place_in c =
     let places : List Spot = c.as_slice.result.now in
     let end = c.in_ok-outline.outline.end in
     let path = c.in_ok-outline.ensures.path ∙ ap (λ (qs : List Spot). along (w.core.state.place ∷ qs) w.core.state.is_down end) (search rules) in
-    arc_end_in_range w c.args.is_relative c.args.arc places end path
-    (traced_in w (seen c.trace_over.new.self) places c.in_ok-trace_over.ensures)
+    let v = seen c.trace_over.new.self in
+    kept_range w v end.place (traced_keeps w v places c.in_ok-trace_over.ensures)
+    (arc_end_in_range w c.args.is_relative c.args.arc places end path (traced_in w v places c.in_ok-trace_over.ensures))
 
 pub arrive-requires-clause-placed : goal.arrive-requires-clause-placed
 arrive-requires-clause-placed c =

@@ -9,7 +9,7 @@ use Rattle.full_plot.specs.Polygons.{figure_in, trace_step}
 use Rattle.polygons.specs.Buffers.{Contents}
 use Rattle.full_plot.proofs.FullRuns.{runs_by}
 use Rattle.full_plot.proofs.Curved.{circle_out, circle_traced}
-use Rattle.full_plot.proofs.LinesAlong.{core_stopped, not_drawn, rest_in_range, travelled_in}
+use Rattle.full_plot.proofs.LinesAlong.{core_stopped, not_drawn, rest_far, travelled_in}
 use Rattle.full_plot.proofs.plotter.FullPlotter.trace_circle.Goals as goal
 
 pub returns-in_err-travel : goal.returns-in_err-travel
@@ -30,7 +30,7 @@ put_figure-requires-clause-places_in c =
     let w = seen c.args.self.now in
     let start = c.in_ok-outline.outline.start in
     let places : List Spot = c.as_slice-places.result.now in
-    rest_in_range start places (travelled_in w.core (core.seen c.travel.new.self) false (start ∷ places) c.in_ok-travel.ensures)
+    rest_far w.core.range start places c.args.self.now.plotter.sound.range_in (travelled_in w.core (core.seen c.travel.new.self) false (start ∷ places) c.in_ok-travel.ensures)
 
 pub returns : goal.returns
 returns c =

@@ -9,7 +9,7 @@ use Rattle.full_plot.specs.Polygons.{reached, trace_step}
 use Rattle.full_plot.specs.Worlds.{FullWorld}
 use Rattle.full_plot.proofs.Curved.{end_is_placed, ended_at, move_path_is, move_traced, reached_in, reached_keeps}
 use Rattle.full_plot.proofs.FullRuns.{stopped}
-use Rattle.full_plot.proofs.LinesAlong.{second_in_range}
+use Rattle.full_plot.proofs.LinesAlong.{kept_range, second_in_range}
 use Rattle.full_plot.proofs.plotter.FullPlotter.trace_move.Goals as goal
 
 pub returns-in_err-reach : goal.returns-in_err-reach
@@ -27,7 +27,9 @@ pub arrive-requires-clause-place_in : goal.arrive-requires-clause-place_in
 arrive-requires-clause-place_in c =
     let w = seen c.args.self.now in
     let end = c.end_of-end.result in
-    second_in_range w.core.state.place end.place [] (reached_in w (seen c.reach.new.self) (end.place ∷ []) c.in_ok-reach.ensures)
+    let v = seen c.reach.new.self in
+    kept_range w v end.place (reached_keeps w v (end.place ∷ []) c.in_ok-reach.ensures)
+    (second_in_range w.core.range w.core.state.place end.place [] (reached_in w v (end.place ∷ []) c.in_ok-reach.ensures))
 
 pub arrive-requires-clause-placed : goal.arrive-requires-clause-placed
 arrive-requires-clause-placed c =

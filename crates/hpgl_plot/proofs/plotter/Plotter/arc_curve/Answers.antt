@@ -11,7 +11,7 @@ returns-clause-curve c =
     let fy : FitsSigned w64 c.args.arc.y = search rules in
     let e = simp to_z-of_z at c.target_of.ensures.value in
     rw e (record {
-      centre = target_small p.page p.axes p.state c.args.is_relative c.args.arc.x c.args.arc.y p.sound c.requires.x_in c.requires.y_in;
-      from = pen_small p.page p.axes p.state p.sound;
+      centre = target_small p.page p.range p.axes p.state c.args.is_relative c.args.arc.x c.args.arc.y p.sound c.requires.x_in c.requires.y_in;
+      from = pen_small p.page p.range p.axes p.state p.sound;
       chord_above = c.requires.chord_above;
     })

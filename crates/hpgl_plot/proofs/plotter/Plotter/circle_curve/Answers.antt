@@ -13,7 +13,7 @@ returns-clause-curve c =
     let fr : FitsSigned w64 c.args.circle.radius = search rules in
     let e = simp to_z-of_z at c.moved-right.ensures.value in
     simp to_z-of_z (rw e (record {
-      centre = pen_small p.page p.axes p.state p.sound;
-      from = right_small p.page p.axes p.state c.args.circle.radius p.sound c.requires.radius_in;
+      centre = pen_small p.page p.range p.axes p.state p.sound;
+      from = right_small p.page p.range p.axes p.state c.args.circle.radius p.sound c.requires.radius_in;
       chord_above = c.requires.chord_above;
     }))

@@ -48,7 +48,7 @@ loop-k-preserved c =
     let e = ap (λ (p : Position). p.place) c.chord_end-next.ensures in
     let t = travelled_keeps v u c.args.draws (c.loop-k.end.place ∷ (q ∷ [])) c.in_ok-reach.ensures.runs in
     record {
-      kept = record { page_is = t.page_is ∙ i.kept.page_is; state_is = t.state_is ∙ i.kept.state_is };
+      kept = record { page_is = t.page_is ∙ i.kept.page_is; range_is = t.range_is ∙ i.kept.range_is; state_is = t.state_is ∙ i.kept.state_is };
       place_in = c.in_ok-reach.ensures.in_range;
       end_is = λ z. c.chord_end-next.ensures;
       same = one_chord w.page f c.args.curve c.args.draws v u w c.loop-k.end.place q c.args.start k h e i.same c.in_ok-reach.ensures.runs;

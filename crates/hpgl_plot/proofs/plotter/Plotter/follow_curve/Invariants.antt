@@ -10,7 +10,7 @@ use Rattle.hpgl_plot.proofs.plotter.Plotter.follow_curve.Given as goal
 abbrev pub invariant-loop-k : goal.invariant-loop-k
 invariant-loop-k l = record {
   kept : IsKept (seen l.fn.self) (seen l.self);
-  place_in : IsInRange l.end.place;
+  place_in : IsInRange l.self.range l.end.place;
   end_is : 0 < l.k → l.end ≡ pen_at l.fn.self.page l.fn.self.state.frame (curve_point l.curve l.k);
   same : Left l.fn.self.page l.fn.self.state.frame l.curve l.draws (seen l.self) l.end.place l.k (seen l.fn.self) l.fn.start;
 }

@@ -2,12 +2,14 @@ use Rattle.std.proofs.Common.{◌≡◌, ◌∙◌, ◌≤◌, max, refl, FitsSi
 use mir.Syntax.{w32, w128}
 use Rattle.std.proofs.lemmas.Int.{ints, to_z-of_z}
 use Rattle.hpgl_plot.proofs.Made.{made_stroke}
+use Rattle.hpgl_plot.proofs.Sound.{as_far}
 use Rattle.hpgl_plot.proofs.plotter.Plotter.line_of_width.Goals as goal
 
 pub invariant_of-result : goal.invariant_of-result
 invariant_of-result c =
     let a = c.args.a in
     let b = c.args.b in
+    let far = c.args.self.now.sound.range_in.most in
     let ax = c.requires.a_in.x_in in
     let ay = c.requires.a_in.y_in in
     let bx = c.requires.b_in.x_in in
@@ -20,12 +22,13 @@ invariant_of-result c =
     let g2 : FitsSigned w32 a.y = omega (arith, ints) in
     let g3 : FitsSigned w32 b.x = omega (arith, ints) in
     let g4 : FitsSigned w32 b.y = omega (arith, ints) in
-    simp to_z-of_z (made_stroke c.max-pen.result _ _ c.args.self.now.state.window a b (let p : 1 ≤ c.max-pen.result = rw c.max-pen.ensures (omega arith) in p) c.requires.width c.args.self.now.sound.window c.requires.a_in c.requires.b_in)
+    simp to_z-of_z (made_stroke c.max-pen.result _ _ c.args.self.now.state.window a b (let p : 1 ≤ c.max-pen.result = rw c.max-pen.ensures (omega arith) in p) c.requires.width c.args.self.now.sound.window (as_far _ a c.args.self.now.sound.range_in c.requires.a_in) (as_far _ b c.args.self.now.sound.range_in c.requires.b_in))
 
 pub returns : goal.returns
 returns c =
     let a = c.args.a in
     let b = c.args.b in
+    let far = c.args.self.now.sound.range_in.most in
     let ax = c.requires.a_in.x_in in
     let ay = c.requires.a_in.y_in in
     let bx = c.requires.b_in.x_in in
@@ -45,6 +48,7 @@ returns c =
 pub overflow_cast-result-2 : goal.overflow_cast-result-2
 overflow_cast-result-2 c =
     let a = c.args.a in
+    let far = c.args.self.now.sound.range_in.most in
     let ay = c.requires.a_in.y_in in
     let f : FitsSigned w128 a.y = omega (arith, ints) in
     let g : FitsSigned w32 a.y = omega (arith, ints) in
@@ -53,6 +57,7 @@ overflow_cast-result-2 c =
 pub overflow_cast-result-4 : goal.overflow_cast-result-4
 overflow_cast-result-4 c =
     let b = c.args.b in
+    let far = c.args.self.now.sound.range_in.most in
     let by = c.requires.b_in.y_in in
     let f : FitsSigned w128 b.y = omega (arith, ints) in
     let g : FitsSigned w32 b.y = omega (arith, ints) in
@@ -61,6 +66,7 @@ overflow_cast-result-4 c =
 pub overflow_cast-result : goal.overflow_cast-result
 overflow_cast-result c =
     let a = c.args.a in
+    let far = c.args.self.now.sound.range_in.most in
     let ax = c.requires.a_in.x_in in
     let f : FitsSigned w128 a.x = omega (arith, ints) in
     let g : FitsSigned w32 a.x = omega (arith, ints) in
@@ -69,6 +75,7 @@ overflow_cast-result c =
 pub overflow_cast-result-3 : goal.overflow_cast-result-3
 overflow_cast-result-3 c =
     let b = c.args.b in
+    let far = c.args.self.now.sound.range_in.most in
     let bx = c.requires.b_in.x_in in
     let f : FitsSigned w128 b.x = omega (arith, ints) in
     let g : FitsSigned w32 b.x = omega (arith, ints) in

@@ -16,7 +16,7 @@ use Rattle.hpgl_plot.proofs.plotter.Plotter.write.Goals as goal
 
 pub loop-byte-init : goal.loop-byte-init
 loop-byte-init c = record {
-  kept = record { page_is = refl; state_is = refl };
+  kept = record { page_is = refl; range_is = refl; state_is = refl };
   column_in = omega arith;
   line_in = omega arith;
   ends = refl;
@@ -63,7 +63,7 @@ loop-byte-preserved c =
     let line = next_line cell byte in
     let e = c.after-cell.ensures in
     record {
-      kept = record { page_is = m.page_is ∙ i.kept.page_is; state_is = m.state_is ∙ i.kept.state_is };
+      kept = record { page_is = m.page_is ∙ i.kept.page_is; range_is = m.range_is ∙ i.kept.range_is; state_is = m.state_is ∙ i.kept.state_is };
       column_in = rw e (omega (arith, column, i.column_in));
       line_in = rw e (omega (arith, line, i.line_in));
       ends = ap (λ (l : Cell). cell_from l rest) e ∙ sym (ap (λ (l : List ℕ). cell_from cell l) n) ∙ i.ends;

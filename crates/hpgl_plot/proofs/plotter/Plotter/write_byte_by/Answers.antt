@@ -51,7 +51,7 @@ strokes-preserved c =
     let e = subst (λ (x : State). travelled w true (stroke_places x t) ≡ Some v) i.kept.state_is c.in_ok-write_stroke.ensures in
     let n = travelled_keeps w v true (stroke_places s t) e in
     record {
-      kept = record { page_is = n.page_is ∙ i.kept.page_is; state_is = n.state_is ∙ i.kept.state_is };
+      kept = record { page_is = n.page_is ∙ i.kept.page_is; range_is = n.range_is ∙ i.kept.range_is; state_is = n.state_is ∙ i.kept.state_is };
       within = omega (arith, h);
       same = sym (lines_more w v true (stroke_places s t) rest e) ∙ sym (ap (λ (ls : List (List Spot)). travelled_all w true ls) o) ∙ i.same;
     }

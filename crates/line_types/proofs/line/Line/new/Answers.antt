@@ -24,4 +24,4 @@ invariant_of-result-clause-long_is c =
 
 pub invariant_of-result-clause-long_in : goal.invariant_of-result-clause-long_in
 invariant_of-result-clause-long_in c =
-    root_in c.root-long.result 65536 c.unsigned_abs-across.result c.unsigned_abs-up.result (2 ^ 21) c.root-long.ensures.square_in (omega (arith, ints)) (omega (arith, ints)) (2 ^ 30) (omega arith)
+    root_in c.root-long.result 65536 c.unsigned_abs-across.result c.unsigned_abs-up.result (2 ^ 28) c.root-long.ensures.square_in (omega (arith, ints)) (omega (arith, ints)) (2 ^ 37) (omega arith)

@@ -21,7 +21,7 @@ record AreRead (axis : Axis) (q : ℤ) : Type 0 where
   turned_slope : to_z w128 (of_z w128 (pos 0 -ℤ axis.slope)) ≡ pos 0 -ℤ axis.slope
   small : nat_abs (q *ℤ axis.under -ℤ axis.offset) ≤ 2 ^ 105
 
-are_read : (axis : Axis) (q : ℤ) → IsLine axis → nat_abs q ≤ 2 ^ 21 → AreRead axis q
+are_read : (axis : Axis) (q : ℤ) → IsLine axis → nat_abs q ≤ 2 ^ 28 → AreRead axis q
 are_read axis q l near =
     let p = product_within q axis.under _ _ near l.under_in in
     let over = q *ℤ axis.under -ℤ axis.offset in

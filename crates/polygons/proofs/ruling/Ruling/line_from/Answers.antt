@@ -17,7 +17,7 @@ overflow_cast-result c =
     let f : FitsSigned w128 c.div_euclid-below.result = fits_signed_from_abs w128 c.div_euclid-below.result (omega arith) in
     simp to_z-of_z (fits_signed_from_abs w32 c.div_euclid-below.result (omega arith))
 
-negated : (b : ℤ) → nat_abs b ≤ 2 ^ 18 → nat_abs (pos 0 -ℤ b) ≤ 2 ^ 18
+negated : (b : ℤ) → nat_abs b ≤ 2 ^ 25 → nat_abs (pos 0 -ℤ b) ≤ 2 ^ 25
 negated b h = omega (arith, ints)
 
 minus : (b : ℤ) → pos 0 -ℤ b ≡ neg_ℤ b

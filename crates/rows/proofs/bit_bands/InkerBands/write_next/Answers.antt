@@ -23,6 +23,16 @@ write_rows-requires-clause-few g c =
     let m = mul-le (rows_next p) c.packed_length-stride.result MOST_PIXELS_A_SIDE (bytes_for MOST_PIXELS_A_SIDE) b.low b.narrow in
     omega (arith, b.size, m)
 
+pub write_rows-requires-clause-tall : goal.write_rows-requires-clause-tall
+write_rows-requires-clause-tall g c =
+    let p = c.args.self.now in
+    let is_left = c.ink_next.ensures.left.1 c.requires.left in
+    let b = next_band p c.ink_next.new.self (g.G.Gauge.reaches c.args.gauge.now) (rows_next p) c.columns.result c.packed_length-stride.result c.bytes.result.now
+    c.ink_next.ensures.within c.ink_next.ensures.moves refl (c.ink_next.ensures.some is_left) (c.ink_next.ensures.rows is_left) c.bytes.ensures.rows c.bytes.ensures.size
+    c.columns.ensures.count c.columns.ensures.most c.packed_length-stride.ensures in
+    let m = mul-le (rows_next p) c.packed_length-stride.result MOST_PIXELS_A_SIDE c.packed_length-stride.result b.low (omega arith) in
+    omega (arith, b.size, m)
+
 pub returns-clause-small : goal.returns-clause-small
 returns-clause-small g c =
     let p = c.args.self.now in
@@ -30,7 +40,7 @@ returns-clause-small g c =
     let b = next_band p c.ink_next.new.self (g.G.Gauge.reaches c.args.gauge.now) (rows_next p) c.columns.result c.packed_length-stride.result c.bytes.result.now
     c.ink_next.ensures.within c.ink_next.ensures.moves refl (c.ink_next.ensures.some is_left) (c.ink_next.ensures.rows is_left) c.bytes.ensures.rows c.bytes.ensures.size
     c.columns.ensures.count c.columns.ensures.most c.packed_length-stride.ensures in
-    let m = mul-le (rows_next p) c.packed_length-stride.result (rows_next p) 4194304 (omega arith) (omega (arith, b.narrow)) in
+    let m = mul-le (rows_next p) c.packed_length-stride.result (rows_next p) 33554432 (omega arith) (omega (arith, b.narrow)) in
     if_ok c.write_rows.result _ _ c.write_rows.ensures.count (λ x e. omega (arith, e, b.size, m))
 
 pub returns-clause-writes : goal.returns-clause-writes

@@ -25,6 +25,18 @@ put_rows-requires-clause-some g c =
     c.columns.ensures.count c.columns.ensures.most c.packed_length-stride.ensures in
     b.some
 
+pub put_rows-requires-clause-tall : goal.put_rows-requires-clause-tall
+put_rows-requires-clause-tall g c =
+    let v : c.self.inside.inker ≡ c.args.self.now = c.self.view_is in
+    let p : Painting = c.self.inside.inker in
+    let is_left = c.ink_next.ensures.left.1 (subst (λ (z : Painting). z.next < z.end) (sym v) c.requires.left) in
+    let n = c.next_row.result - c.next_row-at.result in
+    let n_is : n ≡ rows_next p = omega (arith, c.next_row-at.ensures.next, c.next_row.ensures.next, c.ink_next.ensures.moves.next) in
+    let b = next_band p c.ink_next.new.self (g.G.Gauge.reaches c.args.gauge.now) n c.columns.result c.packed_length-stride.result c.bytes.result.now
+    c.ink_next.ensures.within c.ink_next.ensures.moves n_is (c.ink_next.ensures.some is_left) (c.ink_next.ensures.rows is_left) c.bytes.ensures.rows c.bytes.ensures.size
+    c.columns.ensures.count c.columns.ensures.most c.packed_length-stride.ensures in
+    omega (arith, b.low)
+
 pub invariant_of-rows-clause-size : goal.invariant_of-rows-clause-size
 invariant_of-rows-clause-size g c =
     let v : c.self.inside.inker ≡ c.args.self.now = c.self.view_is in
@@ -83,10 +95,10 @@ returns-clause-small g c =
     let b = next_band p c.ink_next.new.self (g.G.Gauge.reaches c.args.gauge.now) n c.columns.result c.packed_length-stride.result c.bytes.result.now
     c.ink_next.ensures.within c.ink_next.ensures.moves n_is (c.ink_next.ensures.some is_left) (c.ink_next.ensures.rows is_left) c.bytes.ensures.rows c.bytes.ensures.size
     c.columns.ensures.count c.columns.ensures.most c.packed_length-stride.ensures in
-    let m = mul-le n (c.packed_length-stride.result + LONGEST_COMMAND) n 4194304 (omega arith) (omega (arith, b.narrow)) in
+    let m = mul-le n (c.packed_length-stride.result + LONGEST_COMMAND) n 33554432 (omega arith) (omega (arith, b.narrow)) in
     let was : p.next ≡ c.args.self.now.next = ap (λ (z : Painting). z.next) v in
     let many : n ≡ c.ink_next.new.self.next - c.args.self.now.next = omega (arith, c.next_row-at.ensures.next, c.next_row.ensures.next, was) in
-    let rows : n * 4194304 ≡ (c.ink_next.new.self.next - c.args.self.now.next) * 4194304 = ap (λ (k : ℕ). k * 4194304) many in
+    let rows : n * 33554432 ≡ (c.ink_next.new.self.next - c.args.self.now.next) * 33554432 = ap (λ (k : ℕ). k * 33554432) many in
     if_ok c.put_rows.result _ _ c.put_rows.ensures.most (λ x e. omega (arith, e, m, rows))
 
 pub returns-clause-tests : goal.returns-clause-tests
