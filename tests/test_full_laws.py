@@ -3,6 +3,7 @@
 from collections import Counter
 from functools import partial
 from string import ascii_lowercase
+from unittest.mock import patch
 
 import pytest
 
@@ -22,6 +23,7 @@ WIDEST = 12_800
 PLAIN = bytes(
     byte - 32 if chr(byte) in ascii_lowercase else 126 if byte in (8, 9, 14, 15) or byte > 127 else byte for byte in range(256)
 )
+SQUARE = Page(1000, 1000, 0, 0)
 CORE = "IN DF IP SC RO IW SP PW PC PU PD PA PR PE EA ER CI AA AR LB DT SI DI".split()
 
 
@@ -94,17 +96,42 @@ def core_plots(part):
 
 @pytest.mark.parametrize("part", range(PARTS))
 def test_core_is_the_same_in_both(part):
-    """A plot with only the core's items has the same strokes and notes in both profiles, and the same refusal but for a place that
-    only core refuses."""
-    wrong, sizes = [], []
+    """A plot with only the core's items has the same strokes and notes in both profiles, or the same refusal, if places may lie as
+    far in core as in full. Core itself draws the same, or refuses the plot for a place off its range."""
+    wrong, sizes, too_far, farther = [], [], 0, 0
     for seed, plot, page in core_plots(part):
         core, full = (without_labels(drawn(profile.draw, plot, page)) for profile in (plotter, full_plotter))
-        sizes.append(0 if isinstance(core, str) else len(core[0]))
-        if core != full and not is_too_far(core):
+        with patch.object(plotter.Plotter, "farthest", FARTHEST_END):
+            wide = drawn(plotter.draw, plot, page)
+        sizes.append(0 if isinstance(wide, str) else len(wide[0]))
+        too_far += is_too_far(full)
+        farther += core != wide
+        if wide != full or core != wide and not is_too_far(core):
             wrong.append(f"seed {seed}: {plot!r} on {page}")
     assert_nothing(wrong)
-    # Nearly all are compared, and many draw.
+    # Nearly all are compared, and many draw. Some are refused for a place in both profiles, and some only in core.
     assert len(sizes) > 0.9 * CORE_PLOTS / PARTS and sum(size > 5 for size in sizes) > len(sizes) / 4
+    assert min(too_far, farther) > len(sizes) / 100
+
+
+@pytest.mark.parametrize("plot, page, refused", [
+    (b"PU65536,-65536;PD;", SQUARE, None),
+    (b"PU;PD65536.03,0;PU65537,0;", SQUARE, 16),
+    (b"PD65536.03,65536.03;PU0,-65537;PD;", SQUARE, 20),
+    (b"PD65536.04,0;", SQUARE, 0),
+    (b"PU-8388607,0;", SQUARE, 0),
+    (b"PU-65536,0;PD65535,0;PD65536,0;", SQUARE._replace(left=1), 21),
+    (b"PD0,-65540;PD;PU0,-65541;", SQUARE._replace(below=4), 14),
+    (b"SP1;PU65536,0;SI1,1;LBL\3", SQUARE, 20),
+])
+def test_places_that_only_core_refuses(plot, page, refused):
+    """Core refuses a plot for a place more than 65,536 units from the corner of the page, which full draws."""
+    core, full = drawn(plotter.draw, plot, page), drawn(full_plotter.draw, plot, page)
+    assert not isinstance(full, str)
+    if refused is None:
+        assert core == without_labels(full)
+    else:
+        assert core == messages.text("off-range", refused)
 
 
 @pytest.mark.parametrize("part", range(PARTS))
