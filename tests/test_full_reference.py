@@ -14,7 +14,9 @@ from shared import HERE, assert_nothing, read_bytes
 
 ROWS = os.path.join(HERE, "full_examples.txt")
 USUAL = {"profile": "full", "width": "1000", "height": "1000"}
-REFUSALS = {"3": "off-range", "4": "too-many-strokes"}
+REFUSALS = {"3": "off-range", "4": "too-many-strokes", "12": "too-many-pixels"}
+# The rule that refuses only a picture.
+OF_PICTURES = "12"
 PLACE = r"\((-?\d+),(-?\d+)\)"
 STROKE = re.compile(rf"{PLACE}(?:-{PLACE})?((?: [pwc]\w+)*)")
 # A row or some rows of pixels, and pixels of a row: columns, pen and colour.
@@ -114,6 +116,8 @@ def differences(keys):
     got = drawn(plot, options)
     if "refused" in keys or isinstance(got, str):
         rule, _, at = keys.get("refused", [""])[0].partition(" at ")
+        if rule == OF_PICTURES:
+            got = answer("marks", marks_case(keys), plot).error[len("plotraster: "):-1]
         wanted = {"refusal": messages.text(REFUSALS[rule], at) if rule in REFUSALS else "nothing is refused"}
         found = {"refusal": got if isinstance(got, str) else "nothing is refused"}
     else:
@@ -185,6 +189,6 @@ def test_examples(name, keys):
 def test_number_of_examples():
     """Each row has a name of its own, a plot, and something that it says of it."""
     names = [name for name, _ in rows()]
-    assert len(names) == len(set(names)) == 177
+    assert len(names) == len(set(names)) == 178
     says = {"draws", "strokes", "area", "pixels", "refused"}
     assert_nothing(f"{name} says nothing" for name, keys in rows() if len(keys["plot"]) != 1 or not says & set(keys))

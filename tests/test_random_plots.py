@@ -51,12 +51,12 @@ def angles():
 
 
 def full_examples():
-    """The examples of the profile full, as reports, as documents of lines and areas, and those with pixels as marks."""
+    """The examples of the profile full, as reports, as documents of lines and areas, and those about pixels as marks."""
     for name, keys in rows():
         plot = plot_of(keys["plot"][0])
         yield name, Case("report", options_of(keys), plot)
         yield from ((name, Case(form, options_of(keys), plot)) for form in VECTORS)
-        if "pixels" in keys:
+        if {"pixels", "marks"} & set(keys):
             yield name, Case("marks", marks_case(keys), plot)
 
 

@@ -45,6 +45,9 @@ NO_PIXELS = messages.refused("no-pixels")
 NO_FIT = messages.refused("margin-without-fit")
 BAD_ROTATION = messages.refused("rotation")
 TOO_FAR = messages.refused("too-far-to-turn")
+TOO_MANY_PIXELS = messages.refused("too-many-pixels")
+# Over 400,000 rows.
+TALL = ["--profile=full", "--width=64", "--height=523712", "--dots=776"]
 NO_FOLDER = messages.refused("no-folder")
 BAD_SHEET = (2, b"plotraster: bad sheet: use a number from 0 to 4194304, or each\n")
 EACH_OF_A_REPORT = (2, b"plotraster: --sheet each needs a picture\n")
@@ -73,7 +76,7 @@ PAPERS = [
     "a0", "a1", "a2", "a3", "a4", "a5", "b4", "letter", "legal", "tabloid",
     "ansi-a", "ansi-b", "ansi-c", "ansi-d", "ansi-e", "arch-d", "arch-e",
 ]
-PICTURE_RANGES = {"--dots": (10, 1200), "--band": (1, 4096), "--from": (0, 619237), "--rows": (1, 400000)}
+PICTURE_RANGES = {"--dots": (10, 1200), "--band": (1, 4096), "--from": (0, 399999), "--rows": (1, 400000)}
 RANGES = {**PAGE_RANGES, **PICTURE_RANGES}
 PCL_DOTS = [75, 100, 150, 200, 300, 600]
 # As many letters as Linux lets a word have, nearly.
@@ -520,6 +523,10 @@ def orders_of_refusal():
     yield ["pbm", "--rotate=180", "far.plt"], OFF_RANGE
     yield ["pbm", "--profile=full", "--rotate=180", "--from=99999", "edge.plt"], TOO_FAR
     yield ["pcl", "--profile=full", "--rotate=180", "--dots=127", "edge.plt"], NOT_OF_PCL
+    yield ["pbm", *TALL, "--rotate=180", "edge.plt"], TOO_FAR
+    yield ["ppm", *TALL, "folder"], NOT_READ
+    yield ["marks", *TALL, "--from=399999", "far.plt"], OFF_RANGE
+    yield ["pbm", *TALL, "--from=399999", "line.plt"], TOO_MANY_PIXELS
     yield ["pbm", "--pens=0", "--dots=9"], USAGE
     yield ["pbm", "--dots=9", "missing.plt"], USAGE
     yield ["pbm", "--pens=0", "missing.plt"], BAD_LIST

@@ -24,7 +24,7 @@ PAGE_OPTIONS = {
     "width": (64, 524288, 11880), "height": (64, 524288, 8400), "left": (0, 65536, 0), "below": (0, 65536, 0),
 }
 PICTURE_OPTIONS = {"dots": (10, 1200, 100)}
-ROW_OPTIONS = {"band": (1, 4096, 64), "from": (0, 619_237, 0), "rows": (1, 400_000, None)}
+ROW_OPTIONS = {"band": (1, 4096, 64), "from": (0, 399_999, 0), "rows": (1, 400_000, None)}
 SMOOTH_OPTIONS = {"smooth": (1, MOST_SMOOTHING, 1)}
 # Without `fit` there may be no margin.
 FIT_OPTIONS = {"margin": (0, 100, 1)}

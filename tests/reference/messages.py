@@ -6,6 +6,7 @@ MESSAGES = {
     "too-many-strokes": (1, "too many strokes at byte {}"),
     "too-long": (1, "plot is longer than 67108864 bytes"),
     # of words
+    "too-many-pixels": (2, "the picture has too many pixels"),
     "first-row": (2, "first row is past the last row"),
     "resolution": (2, "resolution is not one of PCL's"),
     "too-far-to-turn": (2, "a line leads too far from the page to be turned"),

@@ -21,6 +21,8 @@ from .vectors import Document, shapes_of, spans_of
 
 ESC = b"\x1b"
 WHITE = b"\xff\xff\xff"
+# The most columns of a picture in pixels, and the most rows.
+MOST_COLUMNS_AND_ROWS = 400_000
 # The name of the plot whose pictures are in a folder, without its extension.
 PLOT = "plot"
 
@@ -164,18 +166,31 @@ def said_of(request, shown, shapes, about=""):
 
 def pictured(request, shown):
     """The picture of what is shown, or in a folder those of all sheets."""
-    if request.first and request.first > raster.count(shown.page.height, shown.dots):
-        return fault(2, messages.text("first-row"))
     shapes = shown.drawing.shapes
-    if not request.folder:
-        return Answer(0, picture_of(request, shown, shapes), said_of(request, shown, shapes))
     sheets = [("", shapes)]
     if request.sheet == EACH and shown.drawing.sheets > 1:
         numbers = range(1, shown.drawing.sheets + 1)
         sheets = [(f"sheet {number}: ", [it for it in shapes if it.sheet == number]) for number in numbers]
+    refused = refused_for(request, shown)
+    if refused:
+        return Answer(2, b"", "".join(f"plotraster: {about}{messages.text(refused)}\n" for about, _ in sheets))
+    if not request.folder:
+        return Answer(0, picture_of(request, shown, shapes), said_of(request, shown, shapes))
     names = file_names(len(sheets), request.form)
     files = {name: picture_of(request, shown, drawn) for name, (_, drawn) in zip(names, sheets)}
     return Answer(0, listed(files), "".join(said_of(request, shown, drawn, about) for about, drawn in sheets))
+
+
+def refused_for(request, shown):
+    """By which message there is no picture on the page that is shown, or None."""
+    if request.form in VECTORS:
+        return None
+    columns, rows = (raster.count(side, shown.dots) for side in (shown.page.width, shown.page.height))
+    if max(columns, rows) > MOST_COLUMNS_AND_ROWS:
+        return "too-many-pixels"
+    if request.first and request.first > rows:
+        return "first-row"
+    return None
 
 
 def file_names(count, form):

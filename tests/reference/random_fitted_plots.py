@@ -90,7 +90,7 @@ def light_case(case, chance):
     if options.get("dots") not in allowed:
         options["dots"] = chance.choice(allowed)
     rows = count(page.height, int(options["dots"]))
-    if number(case, "from", 0, 619_237, 0) > rows and chance.random() < 0.8:
+    if number(case, "from", 0, 399_999, 0) > rows and chance.random() < 0.8:
         options["from"] = str(chance.randint(0, rows))
     return case._replace(options=options)
 

@@ -128,7 +128,7 @@ options =
     ∷ option (codes "form") group.Draw Word
     ∷ option (codes "quiet") group.Draw Flag
     ∷ option_or (codes "64") (codes "band") group.Rows (Number 1 4096)
-    ∷ option_or (codes "0") (codes "from") group.Rows (Number 0 619237)
+    ∷ option_or (codes "0") (codes "from") group.Rows (Number 0 399999)
     ∷ option (codes "rows") group.Rows (Number 1 400000)
     ∷ []
 

@@ -397,12 +397,12 @@ static OPTIONS: [OptionRow<'static>; 25] = [
         short: None,
         aliases: &[],
         group: Group::Rows,
-        value: Value::Number(0, 619237),
+        value: Value::Number(0, 399999),
         defaults: &[(Group::All, "0")],
         value_name: "ROW",
         help: &[(
             Group::All,
-            "First row of pixels to write, counted from 0 at the top, 0 to 619237; only row 0 comes with a header",
+            "First row of pixels to write, counted from 0 at the top, 0 to 399999; only row 0 comes with a header",
         )],
     },
     OptionRow {

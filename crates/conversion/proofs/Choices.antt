@@ -1,5 +1,5 @@
 -- Runs on the page that is given.
-use Rattle.std.proofs.Common.{◌≡◌, ◌≤◌, ◌<◌, ◌+◌, ◌∙◌, ◌-◌, ℕ, false, List, [], length, take, inl, inr, Option, Result, Ok, Err, Some, None, refl, ap, ap₂, arith, rules, subst, sym}
+use Rattle.std.proofs.Common.{◌≡◌, ◌≤◌, ◌<◌, ◌+◌, ◌∙◌, ◌-◌, ℕ, Bool, false, true, List, [], length, take, inl, inr, Option, Result, Ok, Err, Some, None, refl, ap, ap₂, arith, rules, subst, sym}
 use Rattle.hpgl_plot.specs.declared.fault.PlotFault.{PlotFault}
 use Rattle.hpgl_plot.specs.declared.fault.PlotFault.TheVariants as plot
 use Rattle.plot_page.specs.Resolutions.{rows_of}
@@ -13,7 +13,7 @@ use Rattle.picture_out.specs.Forms.{foot_bytes}
 use Rattle.rows.specs.Boxes.{strip_boxes, strokes_boxes}
 use Rattle.rows.proofs.Joined.{foot_at_end, whole_boxes}
 use Rattle.conversion.specs.Conversions.{Converts, HasConvertedBy}
-use Rattle.conversion.specs.PageJobs.{on_page, times_on}
+use Rattle.conversion.specs.PageJobs.{has_too_many_pixels, on_page, times_on}
 use Rattle.conversion.specs.Drawings.{AreLinesOf, Draws, HasDrawn, IsDrawn, IsReasonOnFirst, place_of}
 use Rattle.conversion.specs.Faults.{of_plot}
 use Rattle.conversion.specs.Kinds.{HasDrawnFor, HasDrawnTurned}
@@ -28,7 +28,7 @@ use Rattle.conversion.specs.Reports.{HasReportedAs, HasReportedOn, Reports, Writ
 use Rattle.plot_report.specs.Report.{report_page}
 use Rattle.std.specs.Io.KnownBytes.{Appends, Consumes}
 use Rattle.conversion.specs.Rules.{Rules, core_rules, rules_in, rules_of, rules_with, shapes_by}
-use Rattle.conversion.specs.Sheets.{WritesShapes, shapes_on}
+use Rattle.conversion.specs.Sheets.{PaintsShapes, WritesShapes, shapes_on}
 use Rattle.carousel.specs.Carousels.{empty}
 use Rattle.directions.specs.declared.turn.Turn.{Turn}
 use Rattle.directions.specs.declared.turn.Turn.TheVariants as turns
@@ -44,9 +44,9 @@ use Rattle.conversion.specs.declared.placement.Placement.TheVariants.{Given}
 use Rattle.plot_report.specs.declared.report_page.ReportPage.{ReportPage}
 use Rattle.rows.specs.declared.fault.PictureFault.{PictureFault}
 use Rattle.conversion.specs.declared.fault.Fault.{Fault}
-use Rattle.conversion.specs.declared.fault.Fault.TheVariants.{Letters, Memory, Paint, Plot, Read, Resolution, TooLong, Unfinished, Unturned, Write}
+use Rattle.conversion.specs.declared.fault.Fault.TheVariants.{Letters, Memory, Paint, Pixels, Plot, Read, Resolution, TooLong, Unfinished, Unturned, Write}
 use Rattle.conversion.proofs.Placements.{first_page}
-use Rattle.conversion.proofs.Refusals.{job_faults, not_painted, plot_fault}
+use Rattle.conversion.proofs.Refusals.{job_faults, not_painted, plot_fault, too_many_pixels}
 use Rattle.devices.specs.Sinks.{SinkState}
 use Rattle.devices.specs.Sources.{SourceState}
 
@@ -84,6 +84,7 @@ not_converted rules job reaches input before after sink sink' (Write row whole b
 not_converted rules job reaches input before after sink sink' Resolution h = absurd h
 not_converted rules job reaches input before after sink sink' Letters h = absurd h
 not_converted rules job reaches input before after sink sink' Unturned h = absurd h
+not_converted rules job reaches input before after sink sink' Pixels h = absurd h
 not_converted rules job reaches input before after sink sink' Unfinished h = absurd h
 
 -- a plot that was read, and is refused for its first page
@@ -128,19 +129,19 @@ module _ (rules : Rules) (chosen : RowChoice) (job : Job) (reaches : Reach) (inp
       subst (λ (k : ℕ). HasPainted k None job reaches (shapes_by rules job.page input) sink sink' answer) once
       (subst (λ (ss : ShapeList). HasPainted n None job reaches ss sink sink' answer) are all)
 
-  converted : (shapes : ShapeList) (answer : Result Outcome Fault) → shapes ≡ shapes_by rules job.page input
-      → WritesShapes given_choice chosen job drawing shapes reaches sink sink' answer → Converts rules 1 job reaches input before after sink sink' (done_of answer)
-  converted shapes (Err fault) are h =
+  painting_converted : (shapes : ShapeList) (answer : Result Outcome Fault) → shapes ≡ shapes_by rules job.page input → has_too_many_pixels job.page job.dots ≡ false
+      → PaintsShapes given_choice chosen job drawing shapes reaches sink sink' answer → Converts rules 1 job reaches input before after sink sink' (done_of answer)
+  painting_converted shapes (Err fault) are few h =
       subst (λ (f : Fault). Converts rules 1 job reaches input before after sink sink' (Err f)) (sym h.1)
-      (not_painted rules 1 job reaches input before after sink sink' h.0 drawn.read accepted (painted shapes (Err h.0) are h.2))
-  converted shapes (Ok o) are h =
+      (not_painted rules 1 job reaches input before after sink sink' h.0 drawn.read accepted few (painted shapes (Err h.0) are h.2))
+  painting_converted shapes (Ok o) are few h =
       let painting = painted shapes (Ok o.done.bytes) are h.0 in
       let rows = rows_of job.page job.dots in
       let text = shapes_row 1 job reaches (shapes_by rules job.page input) in
       let wrote = subst (λ (foot : List ℕ). IsWhole (picture_of (head_of job.form job.page job.dots) text foot rows job.first_row) sink sink' o.done.bytes) (foot_at_end (foot_bytes job.form) rows) painting.1 in
       record {
         read = drawn.read;
-        accepted = job_faults job (rules.refusal job.page input) None accepted painting.0;
+        accepted = job_faults job (rules.refusal job.page input) None accepted few painting.0;
         written = wrote.written;
         sound = wrote.sound;
         rows = h.1 ∙ ap₂ (λ (most : Option ℕ) (page : Page). end_of most job.first_row (rows_of page job.dots) - job.first_row) whole here;
@@ -149,6 +150,19 @@ module _ (rules : Rules) (chosen : RowChoice) (job : Job) (reaches : Reach) (inp
         areas_count = h.2.areas_count ∙ ap (λ (ss : ShapeList). length ss.areas) are;
         notes = h.2.notes ∙ drawn.lines.notes_are;
       }
+
+  converted : (shapes : ShapeList) (answer : Result Outcome Fault) → shapes ≡ shapes_by rules job.page input
+      → WritesShapes given_choice chosen job drawing shapes reaches sink sink' answer → Converts rules 1 job reaches input before after sink sink' (done_of answer)
+  converted shapes answer are h = judged (has_too_many_pixels drawing.page job.dots) refl
+    where
+      judged : (b : Bool) → has_too_many_pixels drawing.page job.dots ≡ b → Converts rules 1 job reaches input before after sink sink' (done_of answer)
+      judged true many =
+          let there = subst (λ (page : Page). has_too_many_pixels page job.dots ≡ true) here many in
+          subst (λ (r : Result Outcome Fault). Converts rules 1 job reaches input before after sink sink' (done_of r)) (sym (h.refused many).0)
+          (record { read = drawn.read; refused = too_many_pixels job (rules.refusal job.page input) accepted there })
+      judged false few =
+          let there = subst (λ (page : Page). has_too_many_pixels page job.dots ≡ false) here few in
+          painting_converted shapes answer are there (h.painted few)
 
   few_tests : (shapes : ShapeList) (tests tests' : ℕ) → shapes ≡ shapes_by rules job.page input
       → tests' ≤ tests + strip_boxes (times_on given_choice drawing.page job chosen.smoothing) chosen.most_rows (on_page given_choice drawing.page job) shapes.strokes
@@ -231,6 +245,7 @@ module _ (reading : Reading) (pens : PenSet) (given : Page) (input : List ℕ) (
   not_reported Resolution h = absurd h
   not_reported Letters h = absurd h
   not_reported Unturned h = absurd h
+  not_reported Pixels h = absurd h
   not_reported Unfinished h = absurd h
 
   module _ (drawing : Drawing) (drawn : IsDrawn (rules_of reading) given_choice pens given input before after drawing) where
@@ -277,6 +292,7 @@ module _ (reading : Reading) (pens : PenSet) (given : Page) (input : List ℕ) (
     reported (Err Resolution) h = absurd h
     reported (Err Letters) h = absurd h
     reported (Err Unturned) h = absurd h
+    reported (Err Pixels) h = absurd h
     reported (Err Unfinished) h = absurd h
 
 reported_by_it : (reading : Reading) (given : Page) (before after : SourceState) (sink sink' : SinkState) (answer : Result Outcome Fault)

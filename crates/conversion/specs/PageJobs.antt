@@ -1,6 +1,7 @@
--- The job of a picture on the page that it shows, and whether it can have its resolution there.
-use Rattle.std.specs.Prelude.{ℕ, ◌-◌, Bool, true, Option, Some, None}
-use Rattle.plot_page.specs.Resolutions.{rows_of}
+-- The job of a picture on the page that it shows, and whether it can have its resolution there, and so many pixels.
+use Rattle.std.specs.Prelude.{ℕ, ◌-◌, Bool, ◌||◌, nat_lt, true, Option, Some, None}
+use Rattle.plot_page.specs.Resolutions.{columns_of, rows_of}
+use Rattle.plot_page.specs.declared.dots.Dots.{Dots}
 use Rattle.plot_page.specs.declared.page.Page.{Page}
 use Rattle.picture_job.specs.declared.job.Job.{Job}
 use Rattle.picture_job.specs.declared.page_choice.PageChoice.{PageChoice}
@@ -11,6 +12,12 @@ use Rattle.picture_job.specs.declared.smoothing.Smoothing.{Smoothing}
 use Rattle.picture_job.specs.Sizes.{dots_in, smoothing_in}
 use Rattle.rows.specs.Documents.{is_png_possible}
 use Rattle.rows.specs.Pictures.{end_of, has_any_resolution, is_possible}
+use Rattle.conversion.specs.declared.page_job.TheConstants.{MOST_COLUMNS_AND_ROWS}
+
+-- a picture of this page at this resolution has more columns or rows than a picture may have
+abbrev pub has_too_many_pixels : Page → Dots → Bool
+has_too_many_pixels page dots =
+    nat_lt MOST_COLUMNS_AND_ROWS (columns_of page dots) || nat_lt MOST_COLUMNS_AND_ROWS (rows_of page dots)
 
 -- the job on another page, whose picture has the resolution of the job, or as many pixels as are chosen
 abbrev pub on_page : PageChoice → Page → Job → Job

@@ -1,5 +1,5 @@
 -- The picture of a plot, and why a plot has none.
-use Rattle.std.specs.Prelude.{ℕ, List, Option, ◌≡◌, ◌<◌, ◌≤◌, length, false, Some, None, option_map, ⊤}
+use Rattle.std.specs.Prelude.{ℕ, List, Option, ◌≡◌, ◌<◌, ◌≤◌, if◌then◌else◌, length, false, Some, None, option_map, ⊤}
 use Rattle.hpgl_plot.specs.declared.fault.PlotFault.{PlotFault}
 use Rattle.plot_page.specs.declared.page.Page.{Page}
 use Rattle.plot_page.specs.Segments.{Segment}
@@ -10,8 +10,9 @@ use Rattle.hpgl_text.specs.declared.program.TheConstants.{LONGEST_PLOT}
 use Rattle.picture_out.specs.Forms.{foot_bytes}
 use Rattle.picture_job.specs.declared.job.Job.{Job}
 use Rattle.rows.specs.Pictures.{Reach, has_resolution, head_of, job_fault, picture_of, row_of}
+use Rattle.conversion.specs.PageJobs.{has_too_many_pixels}
 use Rattle.conversion.specs.declared.fault.Fault.{Fault}
-use Rattle.conversion.specs.declared.fault.Fault.TheVariants.{TooLong, Memory, Plot, Paint, Write, Read, Resolution}
+use Rattle.conversion.specs.declared.fault.Fault.TheVariants.{TooLong, Memory, Pixels, Plot, Paint, Write, Read, Resolution}
 
 -- the strokes of a plot that is accepted
 abbrev pub plot_strokes : Page → List ℕ → List Segment
@@ -33,9 +34,14 @@ abbrev pub first_fault : Option Fault → Option Fault → Option Fault
 first_fault (Some fault) later = Some fault
 first_fault None later = later
 
--- the first of a plot's refusal for the page and the job's fault, if there is one
+-- the picture of a job has too many pixels
+abbrev pub size_fault : Job → Option Fault
+size_fault job = if has_too_many_pixels job.page job.dots then Some Pixels else None
+
+-- the first of a plot's refusal for the page, the picture's too many pixels and the job's fault, if there is one
 abbrev pub refused_fault : Job → Option PlotFault → Option Fault
-refused_fault job refusal = first_fault (option_map Plot refusal) (option_map Paint (job_fault job))
+refused_fault job refusal =
+    first_fault (option_map Plot refusal) (first_fault (size_fault job) (option_map Paint (job_fault job)))
 
 -- why a plot that was read whole has no picture of a job, or None if it has one
 abbrev pub fault_of : Job → List ℕ → Option Fault

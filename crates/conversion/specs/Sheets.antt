@@ -1,5 +1,5 @@
 -- The picture of shapes of a drawing: of all of them, or of those of one sheet.
-use Rattle.std.specs.Prelude.{◌≡◌, ℕ, List, length, Result, Ok, Err}
+use Rattle.std.specs.Prelude.{◌≡◌, ℕ, List, length, Result, Ok, Err, false, true}
 use Rattle.std.specs.List.{All}
 use Rattle.areas.specs.Laws.{AreRound}
 use Rattle.areas.specs.Shapes.{NoneGoesOn, ShapeList, edges_of, stroke_count}
@@ -8,6 +8,8 @@ use Rattle.full_plot.specs.Drawings.{AreAlike, areas_of_sheet, sheet_strokes}
 use Rattle.full_plot.specs.Labels.{labels_of_sheet}
 use Rattle.labels.specs.Labels.{AreBeside, LabelShape}
 use Rattle.plot_page.specs.Segments.{Segment}
+use Rattle.plot_page.specs.declared.dots.Dots.{Dots}
+use Rattle.plot_page.specs.declared.page.Page.{Page}
 use Rattle.plot_page.specs.declared.pens.PenSet.{PenSet}
 use Rattle.page_fit.specs.Shapes.{shapes_census}
 use Rattle.picture_job.specs.declared.job.Job.{Job}
@@ -15,15 +17,15 @@ use Rattle.picture_job.specs.declared.png_job.PngJob.{PngJob}
 use Rattle.picture_job.specs.declared.page_choice.PageChoice.{PageChoice}
 use Rattle.picture_job.specs.declared.row_choice.RowChoice.{RowChoice}
 use Rattle.devices.specs.Sinks.{SinkState}
-use Rattle.conversion.specs.PageJobs.{on_page, rows_on, times_on}
 use Rattle.conversion.specs.Rules.{ends_of}
 use Rattle.rows.specs.Documents.{HasPaintedPng, picture_shown}
-use Rattle.conversion.specs.PageJobs.{png_on_page, png_rows_on}
+use Rattle.conversion.specs.PageJobs.{has_too_many_pixels, on_page, png_on_page, png_rows_on, rows_on, times_on}
 use Rattle.rows.specs.Pictures.{Reach}
 use Rattle.rows.specs.Progress.{HasPainted}
 use Rattle.rows.specs.declared.fault.PictureFault.{PictureFault}
 use Rattle.conversion.specs.Faults.{of_picture}
 use Rattle.conversion.specs.declared.fault.Fault.{Fault}
+use Rattle.conversion.specs.declared.fault.Fault.TheVariants.{Pixels}
 use Rattle.conversion.specs.declared.outcome.Outcome.{Outcome}
 use Rattle.conversion.specs.declared.place.Drawing.{Drawing}
 
@@ -69,28 +71,48 @@ pub record TellsOf (drawing : Drawing) (pens : PenSet) (shapes : ShapeList) (out
   pub sheets : outcome.sheets ≡ drawing.lines.sheets
   pub census : outcome.census ≡ shapes_census pens drawing.page shapes
 
--- what each answer says of a picture of these shapes on the page where the drawing lies, which is possible: it was written
--- whole, or as many rows as are asked for, or the sink failed, or the job cannot be done there
-abbrev pub WritesShapes : PageChoice → RowChoice → Job → Drawing → ShapeList → Reach → SinkState → SinkState →
+-- a picture of this page at this resolution is refused if it has too many pixels, and nothing is written; if not, painting it
+-- comes to this answer
+pub record IsJudgedByPixels (page : Page) (dots : Dots) (sink sink' : SinkState) (answer : Result Outcome Fault)
+    (paints : Type 0) : Type 0 where
+  pub refused : has_too_many_pixels page dots ≡ true → (answer ≡ Err Pixels) × (sink' ≡ sink)
+  pub painted : has_too_many_pixels page dots ≡ false → paints
+
+-- what each answer says of a picture of these shapes on the page where the drawing lies, which is possible, and has not too
+-- many pixels: it was written whole, or as many rows as are asked for, or the sink failed, or the job cannot be done there
+abbrev pub PaintsShapes : PageChoice → RowChoice → Job → Drawing → ShapeList → Reach → SinkState → SinkState →
     Result Outcome Fault → Type 0
-WritesShapes choice rows job drawing shapes reaches sink sink' (Ok outcome) =
+PaintsShapes choice rows job drawing shapes reaches sink sink' (Ok outcome) =
     HasPainted (times_on choice drawing.page job rows.smoothing) rows.most_rows (on_page choice drawing.page job) reaches
     shapes sink sink' (Ok outcome.done.bytes)
     × (outcome.done.rows ≡ rows_on choice drawing.page job rows.most_rows)
     × TellsOf drawing job.pens shapes outcome
-WritesShapes choice rows job drawing shapes reaches sink sink' (Err fault) =
+PaintsShapes choice rows job drawing shapes reaches sink sink' (Err fault) =
     (cause : PictureFault) × (fault ≡ of_picture cause)
     × HasPainted (times_on choice drawing.page job rows.smoothing) rows.most_rows (on_page choice drawing.page job) reaches
     shapes sink sink' (Err cause)
 
+-- the same, also of a picture that may have too many
+abbrev pub WritesShapes : PageChoice → RowChoice → Job → Drawing → ShapeList → Reach → SinkState → SinkState →
+    Result Outcome Fault → Type 0
+WritesShapes choice rows job drawing shapes reaches sink sink' answer =
+    IsJudgedByPixels drawing.page (on_page choice drawing.page job).dots sink sink' answer
+    (PaintsShapes choice rows job drawing shapes reaches sink sink' answer)
+
 -- the same of a PNG, whose bytes are not counted
-abbrev pub WritesPng : PageChoice → PngJob → Drawing → ShapeList → Reach → SinkState → SinkState → Result Outcome Fault →
+abbrev pub PaintsPng : PageChoice → PngJob → Drawing → ShapeList → Reach → SinkState → SinkState → Result Outcome Fault →
     Type 0
-WritesPng choice job drawing shapes reaches sink sink' (Ok outcome) =
+PaintsPng choice job drawing shapes reaches sink sink' (Ok outcome) =
     HasPaintedPng (picture_shown (png_on_page choice drawing.page job) reaches shapes) sink sink' (Ok outcome)
     × (outcome.done.rows ≡ png_rows_on choice drawing.page job)
     × (outcome.done.bytes ≡ 0)
     × TellsOf drawing job.pens shapes outcome
-WritesPng choice job drawing shapes reaches sink sink' (Err fault) =
+PaintsPng choice job drawing shapes reaches sink sink' (Err fault) =
     (cause : PictureFault) × (fault ≡ of_picture cause)
     × HasPaintedPng {U = Outcome} (picture_shown (png_on_page choice drawing.page job) reaches shapes) sink sink' (Err cause)
+
+abbrev pub WritesPng : PageChoice → PngJob → Drawing → ShapeList → Reach → SinkState → SinkState → Result Outcome Fault →
+    Type 0
+WritesPng choice job drawing shapes reaches sink sink' answer =
+    IsJudgedByPixels drawing.page (png_on_page choice drawing.page job).dots sink sink' answer
+    (PaintsPng choice job drawing shapes reaches sink sink' answer)

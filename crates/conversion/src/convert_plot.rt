@@ -28,7 +28,7 @@ use turning::Turn;
 ///
 /// Errors, in this order: `Resolution` if the form does not have the job's resolution, and then the
 /// source is not read; those of reading and drawing the plot (`Read`, `TooLong`, `Plot`);
-/// `Paint` for a band height or a first row out of range; `Write` if the sink fails. `Memory` comes
+/// `Pixels` if the picture has over 400,000 columns or rows; `Paint` for a band height or a first row out of range; `Write` if the sink fails. `Memory` comes
 /// when memory is refused. After every error but `Write` the sink is as it was; after `Write` it has
 /// taken the first `bytes` bytes of the picture, and the job from row `row` writes what follows the
 /// first `whole` of them.

@@ -41,8 +41,9 @@ use stroke_raster::Gauge;
 /// watcher is told after each band of rows how many are written, and nothing of a vector document; a picture without rows has
 /// no bands.
 ///
-/// Errors, in this order: `Paint` for a band height or a first row out of range; `Letters` if the labels have more letters than
-/// the format of a document takes; if the sink fails, `Write`, or `Unfinished` for a PNG or a document, and what it has taken
+/// Errors, in this order: `Pixels` if a picture that is no vector document has over 400,000 columns or rows; `Paint` for a band
+/// height or a first row out of range; `Letters` if the labels have more letters than the format of a document takes; if the
+/// sink fails, `Write`, or `Unfinished` for a PNG or a document, and what it has taken
 /// of one is of no use. `Memory` comes when memory is refused. After every error but `Write` and `Unfinished` the sink is as
 /// it was, and the watcher was told of nothing.
 pub fn write<G: Gauge, K: Sink, W: Watcher>(

@@ -1,9 +1,19 @@
-//! The job of a picture on the page that it shows.
+//! The job of a picture on the page that it shows, and whether it has too many pixels there.
 ghost use Rattle.std.specs.Prelude.{◌≡◌};
-ghost use Rattle.conversion.specs.PageJobs.{on_page, png_on_page, smoothing_on};
+ghost use Rattle.conversion.specs.PageJobs.{has_too_many_pixels, on_page, png_on_page, smoothing_on};
 
 use picture_job::{Job, PageChoice, PngJob, Smoothing};
-use plot_page::Page;
+use plot_page::{Dots, Page};
+
+/// The most columns of pixels that a picture may have, and the most rows.
+pub const MOST_COLUMNS_AND_ROWS: u32 = 400_000;
+
+/// Whether a picture of this page at this resolution has more columns or rows than a picture may have.
+pub fn has_too_many_pixels(page: &Page, dots: Dots) -> bool
+    ensures { result ≡ has_too_many_pixels page.now dots }
+{
+    dots.columns(page) > MOST_COLUMNS_AND_ROWS || dots.rows(page) > MOST_COLUMNS_AND_ROWS
+}
 
 /// The job on this page, whose picture has the resolution of the job, or as many pixels as are chosen.
 pub fn on_page(choice: PageChoice, page: Page, job: &Job) -> Job

@@ -9,7 +9,7 @@ ghost use Rattle.rows.specs.Watching.{IsTold};
 
 use crate::fault::Fault;
 use crate::outcome::Outcome;
-use crate::page_job::png_on_page;
+use crate::page_job::{has_too_many_pixels, png_on_page};
 use crate::sheet::outcome_of;
 use crate::shown::Shown;
 use devices::Sink;
@@ -42,6 +42,9 @@ pub(crate) fn write_png_shapes<G: Gauge, K: Sink, W: Watcher>(
 {
     let page = shown.drawing.page;
     let job = png_on_page(shown.choice, page, job);
+    if has_too_many_pixels(&page, job.dots) {
+        return (sink, Err(Fault::Pixels));
+    }
     let (sink, painted) = paint_png(alloc, &job, shown.shapes, gauge, sink, watcher);
     match painted {
         Ok(()) => {

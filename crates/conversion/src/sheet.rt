@@ -10,7 +10,7 @@ ghost use Rattle.rows.specs.Watching.{IsTold};
 use crate::done::Done;
 use crate::fault::Fault;
 use crate::outcome::Outcome;
-use crate::page_job::{on_page, smoothing_on};
+use crate::page_job::{has_too_many_pixels, on_page, smoothing_on};
 use crate::place::Drawing;
 use crate::shown::Shown;
 use areas::Shapes;
@@ -52,6 +52,9 @@ pub(crate) fn write_shapes<G: Gauge, K: Sink, W: Watcher>(
         ..rows
     };
     let job = on_page(shown.choice, page, job);
+    if has_too_many_pixels(&page, job.dots) {
+        return Err(Fault::Pixels);
+    }
     let bytes = match paint(alloc, &job, rows, shown.shapes, gauge, sink, watcher) {
         Ok(bytes) => bytes,
         Err(fault) => return Err(Fault::from(fault)),

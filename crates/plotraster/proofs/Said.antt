@@ -2,7 +2,7 @@
 use Rattle.std.proofs.Common.{◌≡◌, ◌++◌, ◌∷◌, ◌<◌, ℕ, List, [], Option, Err, arith, refl, subst}
 use Rattle.conversion.specs.Faults.{status_of}
 use Rattle.conversion.specs.declared.fault.Fault.{Fault}
-use Rattle.conversion.specs.declared.fault.Fault.TheVariants.{Letters, Memory, Paint, Plot, Read, Resolution, TooLong, Unfinished, Unturned, Write}
+use Rattle.conversion.specs.declared.fault.Fault.TheVariants.{Letters, Memory, Paint, Pixels, Plot, Read, Resolution, TooLong, Unfinished, Unturned, Write}
 use Rattle.delivery.specs.Deeds.{AreRemarks, Deed, Remarks, Says}
 use Rattle.delivery.proofs.DeedLemmas.{done_append}
 use Rattle.plotraster.specs.Endings.{ending_after}
@@ -34,3 +34,4 @@ fault_said does a b text Read step = (Deed.refused 3 text ∷ [], (b, step, refl
 fault_said does a b text Resolution step = (Deed.refused 2 text ∷ [], (b, step, refl), (omega arith, text, refl))
 fault_said does a b text Letters step = (Deed.refused 2 text ∷ [], (b, step, refl), (omega arith, text, refl))
 fault_said does a b text Unturned step = (Deed.refused 2 text ∷ [], (b, step, refl), (omega arith, text, refl))
+fault_said does a b text Pixels step = (Deed.refused 2 text ∷ [], (b, step, refl), (omega arith, text, refl))

@@ -7,7 +7,7 @@ use plotraster::{
 use std::test::Fail;
 use stroke_raster::PaintFault;
 
-const FAULTS: [Fault; 11] = [
+const FAULTS: [Fault; 12] = [
     Fault::TooLong,
     Fault::Memory,
     Fault::Plot(PlotFault::OffRange { at: 7 }),
@@ -23,6 +23,7 @@ const FAULTS: [Fault; 11] = [
     Fault::Resolution,
     Fault::Letters,
     Fault::Unturned,
+    Fault::Pixels,
 ];
 
 // The number of each fault, its status, that of a run that stops for it, and its text.
@@ -38,6 +39,7 @@ const NUMBERS_AND_TEXTS: &str = "\
 9 2 2 resolution is not one of PCL's
 10 2 2 labels have more than 67108864 letters, too many for a PDF
 11 2 2 a line leads too far from the page to be turned
+12 2 2 the picture has too many pixels
 ";
 
 #[test]

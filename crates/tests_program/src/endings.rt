@@ -18,6 +18,7 @@ fn endings_after_faults(rt: HostRuntime) -> Result<(), Fail> {
     assert_eq!(rt; ending_of(&Err(Fault::Memory)), Ending::Lost(4));
     assert_eq!(rt; ending_of(&Err(Fault::TooLong)), Ending::Lost(1));
     assert_eq!(rt; ending_of(&Err(Fault::Letters)), Ending::Lost(2));
+    assert_eq!(rt; ending_of(&Err(Fault::Pixels)), Ending::Lost(2));
     Ok(())
 }
 

@@ -200,7 +200,7 @@ plotraster|pbm|--dots=1201
 plotraster|pbm|--band=0
 plotraster|pbm|--band=4097
 plotraster|pbm|--from=-1
-plotraster|pbm|--from=619238
+plotraster|pbm|--from=400000
 ";
 
 #[test]
