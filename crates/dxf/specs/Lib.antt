@@ -10,5 +10,8 @@ pub mod Angles
 pub mod Layers
 pub mod Colours
 pub mod Groups
+-- What a reader finds in a document.
+pub mod Reader
+pub mod Readings
 -- What contracts of private functions need.
 pub mod Steps

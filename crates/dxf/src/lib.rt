@@ -10,6 +10,7 @@ mod entities;
 mod forms;
 mod groups;
 mod head;
+pub mod laws;
 mod layers;
 mod letters;
 mod palette;
