@@ -28,6 +28,8 @@ mod pen_cases;
 #[cfg(test)]
 mod real_plots;
 #[cfg(test)]
+mod rows_of_images;
+#[cfg(test)]
 mod shifts;
 #[cfg(test)]
 mod texts;
