@@ -1,11 +1,11 @@
 -- A row of a width depends on no more of its seed than that.
-use Rattle.std.proofs.Common.{◌≡◌, ℕ, ◌+◌, ◌-◌, ◌<◌, ◌≤◌, ◌⊎◌, inl, inr, List, [], ◌∷◌, ◌++◌, length, take, drop, Bool, true, false, nat_lt, refl, sym, ap, ap₂, ◌∙◌, arith, length-append, length-drop}
+use Rattle.std.proofs.Common.{◌≡◌, ℕ, ◌+◌, ◌-◌, ◌<◌, ◌≤◌, ◌⊎◌, inl, inr, List, [], ◌∷◌, ◌++◌, length, take, drop, true, false, refl, sym, ap, ap₂, ◌∙◌, arith, length-append, length-drop}
 use Rattle.std.proofs.lemmas.Bool.{cases_lt, lt-ltb, ltb-true, true≢false}
 use Rattle.image_rows.specs.declared.compression.RowLength.{RowLength}
 use Rattle.image_rows.specs.declared.compression.RowLength.TheVariants.{Fixed, UpTo}
 use Rattle.image_rows.specs.Changes.{Change}
 use Rattle.image_rows.specs.Rows.{fitted, stay, changed, sized, is_too_long}
-use Rattle.image_rows.proofs.Fitted.{fit, fitted_is, length-fit, take-fit, drop-fit, fit-append, fit_cut, fit_self}
+use Rattle.image_rows.proofs.Fitted.{fit, fitted_is, take-fit, drop-fit, fit-append, fit_cut, fit_self}
 use Rattle.image_rows.proofs.Steps.{length-fitted}
 
 -- what is put does not depend on the seed

@@ -1,5 +1,5 @@
 -- From change to change, with the results of the calls.
-use Rattle.std.proofs.Common.{◌≡◌, ℕ, zero, suc, ◌+◌, ◌-◌, ◌<◌, ◌≤◌, min, Bool, true, false, ◌&&◌, ◌||◌, nat_lt, List, [], ◌∷◌, ◌++◌, length, take, drop, Result, Ok, Err, IfOk, OnOk, refl, sym, ap, ap₂, ◌∙◌, arith, length-append}
+use Rattle.std.proofs.Common.{◌≡◌, ℕ, ◌+◌, ◌-◌, ◌<◌, ◌≤◌, min, Bool, true, false, ◌&&◌, ◌||◌, nat_lt, List, [], ◌∷◌, ◌++◌, length, take, drop, Result, Ok, Err, IfOk, OnOk, refl, sym, ap, ap₂, ◌∙◌, arith, length-append}
 use Rattle.std.proofs.lemmas.List.{take_all}
 use Rattle.std.proofs.lemmas.Bool.{lt-ltb, le-ltb, ltb-true, ltb-false, and_right, true≢false}
 use Rattle.image_rows.specs.declared.compression.RowLength.{RowLength}
@@ -8,7 +8,7 @@ use Rattle.image_rows.specs.declared.ending.RowFault.{RowFault}
 use Rattle.image_rows.specs.Changes.{Change}
 use Rattle.image_rows.specs.Rows.{fitted, stay, changed, sized, is_too_long, has_place, most_of, breaks_off_from}
 use Rattle.image_rows.specs.Views.{IsBegun, is_too_far, with_bytes, going_on}
-use Rattle.image_rows.proofs.Fitted.{fit, fitted_is, length-fit, take-fit, fit_cut, fit_self}
+use Rattle.image_rows.proofs.Fitted.{fitted_is, take-fit, fit_cut, fit_self}
 use Rattle.image_rows.proofs.Steps.{stay_is, length-fitted, going_on_none, going_on_empty, going_on_more, put_sized, ending_after, full_stays}
 
 -- where bytes end: after their place, and not after the last of them

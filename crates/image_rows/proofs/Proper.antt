@@ -1,10 +1,10 @@
 -- What holds of each change that data say.
-use Rattle.std.proofs.Common.{◌≡◌, ℕ, zero, suc, ◌+◌, ◌-◌, ◌*◌, ◌/◌, ◌%◌, ◌<◌, ◌≤◌, ◌==◌, Bool, true, false, if◌then◌else◌, nat_lt, List, [], ◌∷◌, length, take, drop, get_or, replicate, Option, Some, None, refl, sym, ap, subst, ◌∙◌, arith, length-drop, length-take}
+use Rattle.std.proofs.Common.{◌≡◌, ℕ, zero, suc, ◌+◌, ◌-◌, ◌/◌, ◌%◌, ◌<◌, ◌≤◌, ◌==◌, Bool, true, false, if◌then◌else◌, nat_lt, List, [], ◌∷◌, length, drop, get_or, Option, Some, None, refl, sym, ap, subst, ◌∙◌, arith, length-drop, length-take}
 use Rattle.std.proofs.lemmas.List.{length-replicate}
 use Rattle.std.proofs.lemmas.Bool.{ltb-true, ltb-false, true≢false}
 use Rattle.image_rows.specs.declared.compression.Compression.{Compression}
 use Rattle.image_rows.specs.declared.compression.Compression.TheVariants.{Unencoded, RunLength, PackBits, DeltaRow, CompressedDelta}
-use Rattle.image_rows.specs.Changes.{Change, Reading, broken, literal, run, further, number, then_read, packed, delta, compressed, first_change, changes_by, changes}
+use Rattle.image_rows.specs.Changes.{Change, Reading, broken, literal, run, further, number, then_read, packed, compressed, first_change, changes_by, changes}
 
 -- the data after a change are no longer; a broken one is the last; one without bytes passes none
 pub record IsProper (input : List ℕ) (r : Reading) : Type 0 where

@@ -1,14 +1,14 @@
 -- What holds of rows.
-use Rattle.std.proofs.Common.{◌≡◌, ◌≢◌, ℕ, zero, suc, ◌+◌, ◌-◌, ◌*◌, ◌/◌, ◌%◌, ◌<◌, ◌≤◌, ◌==◌, Bool, true, false, ◌&&◌, ◌||◌, if◌then◌else◌, nat_lt, List, [], ◌∷◌, ◌++◌, length, take, drop, replicate, refl, sym, ap, ap₂, ◌∙◌, arith, length-append}
+use Rattle.std.proofs.Common.{◌≡◌, ◌≢◌, ℕ, suc, ◌+◌, ◌-◌, ◌<◌, ◌==◌, Bool, true, false, ◌&&◌, ◌||◌, if◌then◌else◌, nat_lt, List, [], ◌∷◌, ◌++◌, length, drop, replicate, refl, sym, ap, ap₂, ◌∙◌, arith}
 use Rattle.std.proofs.lemmas.List.{take_all, take_at, drop_at, drop_all, drop-drop, append-nil, length-replicate}
-use Rattle.std.proofs.lemmas.Bool.{lt-ltb, le-ltb, ltb-true, true≢false, ne_eqb}
+use Rattle.std.proofs.lemmas.Bool.{lt-ltb, le-ltb, ne_eqb}
 use Rattle.image_rows.specs.declared.compression.Compression.{Compression}
 use Rattle.image_rows.specs.declared.compression.Compression.TheVariants.{Unencoded, RunLength, PackBits, DeltaRow, CompressedDelta}
 use Rattle.image_rows.specs.declared.compression.RowLength.{RowLength}
 use Rattle.image_rows.specs.declared.compression.RowLength.TheVariants.{Fixed, UpTo}
 use Rattle.image_rows.specs.Compressions.{is_delta}
-use Rattle.image_rows.specs.Changes.{Change, Reading, literal, run, first_change, changes_by, changes}
-use Rattle.image_rows.specs.Rows.{fitted, stay, changed, ground, whole_row, sized, row_of, has_place, breaks_off_from, breaks_off}
+use Rattle.image_rows.specs.Changes.{Change, literal, run, first_change, changes_by, changes}
+use Rattle.image_rows.specs.Rows.{fitted, stay, changed, ground, whole_row, sized, row_of, breaks_off_from, breaks_off}
 use Rattle.image_rows.specs.Laws.{RowsHaveTheirWidth, UnencodedIsItsData, NoDataAreZerosOrTheSeed, PackBitsIsRead, one_by_one, RowsCanBeWritten, WidthsOnlyCut}
 use Rattle.image_rows.proofs.Fitted.{fitted_is, fit_self}
 use Rattle.image_rows.proofs.Steps.{length-fitted}

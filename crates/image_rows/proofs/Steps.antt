@@ -1,13 +1,13 @@
 -- A row, one change at a time.
-use Rattle.std.proofs.Common.{◌≡◌, ℕ, zero, suc, ◌+◌, ◌-◌, ◌<◌, ◌≤◌, min, Bool, true, false, ◌&&◌, ◌||◌, nat_lt, List, [], ◌∷◌, ◌++◌, length, take, drop, replicate, refl, sym, ap, ap₂, ◌∙◌, arith, append_assoc, length-append, length-take, length-drop}
-use Rattle.std.proofs.lemmas.List.{take_all, take_at, drop_at, drop_all, drop-drop, append-nil, take-append-drop, length-take-le, length-replicate}
-use Rattle.std.proofs.lemmas.Bool.{lt-ltb, le-ltb, ltb-true, ltb-false, and_right, true≢false}
+use Rattle.std.proofs.Common.{◌≡◌, ℕ, ◌+◌, ◌-◌, ◌<◌, ◌≤◌, min, Bool, true, false, ◌||◌, nat_lt, List, [], ◌∷◌, ◌++◌, length, take, drop, refl, sym, ap, ap₂, ◌∙◌, arith, append_assoc, length-append}
+use Rattle.std.proofs.lemmas.List.{take_all, take_at, drop_at, drop_all, drop-drop, append-nil, take-append-drop, length-take-le}
+use Rattle.std.proofs.lemmas.Bool.{le-ltb, ltb-true, ltb-false, and_right}
 use Rattle.image_rows.specs.declared.compression.RowLength.{RowLength}
 use Rattle.image_rows.specs.declared.compression.RowLength.TheVariants.{Fixed, UpTo}
 use Rattle.image_rows.specs.Changes.{Change}
-use Rattle.image_rows.specs.Rows.{fitted, stay, changed, sized, is_too_long, has_place, most_of, breaks_off_from}
+use Rattle.image_rows.specs.Rows.{fitted, stay, changed, sized, has_place, most_of, breaks_off_from}
 use Rattle.image_rows.specs.Views.{IsBegun, is_too_far, with_bytes, going_on}
-use Rattle.image_rows.proofs.Fitted.{fit, fitted_is, length-fit, fit_split, fit-append, fit_cut, fit_self}
+use Rattle.image_rows.proofs.Fitted.{fit, fitted_is, length-fit, fit_split, fit-append, fit_cut}
 
 pub stay_is : (skip : ℕ) (bytes : List ℕ) → 0 < length bytes → stay skip bytes ≡ skip
 stay_is skip [] h = absurd (omega arith)

@@ -1,5 +1,5 @@
 -- What holds of rows of images.
-use Rattle.std.specs.Prelude.{◌≡◌, ◌≢◌, ◌+◌, ◌-◌, ◌<◌, ◌≤◌, ℕ, Bool, true, false, List, [], ◌∷◌, ◌++◌, length, drop, replicate}
+use Rattle.std.specs.Prelude.{◌≡◌, ◌≢◌, ◌+◌, ◌-◌, ◌<◌, ◌≤◌, ℕ, true, false, List, [], ◌∷◌, ◌++◌, length, drop, replicate}
 use Rattle.image_rows.specs.declared.compression.Compression.{Compression}
 use Rattle.image_rows.specs.declared.compression.Compression.TheVariants.{Unencoded, PackBits}
 use Rattle.image_rows.specs.declared.compression.RowLength.{RowLength}

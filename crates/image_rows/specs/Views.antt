@@ -1,5 +1,5 @@
 -- What the code's types stand for, and rows on the way.
-use Rattle.std.specs.Prelude.{◌≡◌, ◌≤◌, ℕ, ◌-◌, nat_lt, Bool, true, false, List, ◌++◌, length, take, drop, replicate}
+use Rattle.std.specs.Prelude.{◌≡◌, ◌≤◌, ℕ, ◌-◌, nat_lt, Bool, false, List, ◌++◌, length, take, drop, replicate}
 use Rattle.image_rows.specs.declared.change.FoundBytes.{FoundBytes}
 use Rattle.image_rows.specs.declared.change.FoundBytes.TheVariants.{Literal, Run}
 use Rattle.image_rows.specs.declared.change.FoundChange.{FoundChange}

@@ -1,4 +1,4 @@
-use Rattle.std.proofs.Common.{◌≡◌, ◌∙◌, ◌+◌, ℕ, List, drop, get_or, sym, ap, Some, arith}
+use Rattle.std.proofs.Common.{◌∙◌, ◌+◌, ℕ, List, get_or, sym, ap, Some, arith}
 use Rattle.std.proofs.lemmas.List.{take_rest}
 use Rattle.image_rows.proofs.LongNumbers.{further_more, further_end, further_none}
 use Rattle.image_rows.proofs.numbers.further.Goals as goal

@@ -1,6 +1,5 @@
-use Rattle.std.proofs.Common.{◌≡◌, ◌∙◌, ◌+◌, ◌-◌, ◌≤◌, ◌<◌, ℕ, List, length, take, drop, min, refl, sym, ap, arith, length-take, length-drop}
-use Rattle.image_rows.specs.Rows.{most_of}
-use Rattle.image_rows.specs.Views.{bytes_of, is_too_far}
+use Rattle.std.proofs.Common.{◌∙◌, ◌+◌, ◌-◌, ◌≤◌, length, sym, arith}
+use Rattle.image_rows.specs.Views.{bytes_of}
 use Rattle.image_rows.proofs.Written.{written, part_is}
 use Rattle.image_rows.proofs.Loops.{end_order}
 use Rattle.image_rows.proofs.row.put.Goals as goal

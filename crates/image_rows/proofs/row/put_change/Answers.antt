@@ -1,4 +1,4 @@
-use Rattle.std.proofs.Common.{◌≡◌, ◌∙◌, ◌+◌, ◌<◌, ℕ, length, ap, sym, refl, arith}
+use Rattle.std.proofs.Common.{◌+◌, ◌<◌, length, ap, sym, refl, arith}
 use Rattle.image_rows.specs.Rows.{sized}
 use Rattle.image_rows.specs.Views.{bytes_of}
 use Rattle.image_rows.proofs.Steps.{going_on_empty}
