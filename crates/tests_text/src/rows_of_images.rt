@@ -204,9 +204,9 @@ fn compressed_delta(rt: HostRuntime) -> Result<(), Fail> {
 fn numbers(rt: HostRuntime) {
     let mut found: u32 = 0;
     for number in 0..20 {
-        found *= 2;
+        found <<= 1;
         if Compression::from_number(number).is_some() {
-            found += 1;
+            found |= 1;
         }
     }
     assert_eq!(rt; found, 0b1111_0000_0100_0000_0000);
