@@ -1,10 +1,12 @@
--- That a plot has a drawing on a page, and why it has none.
-use Rattle.std.specs.Prelude.{◌≡◌, ℕ, ◌<◌, ◌≤◌, List, length, Some, None, ⊤}
+-- That a plot has a drawing on a page, and why it has none, or no bitmap.
+use Rattle.std.specs.Prelude.{◌≡◌, ℕ, ◌<◌, ◌≤◌, List, length, Some, None, true, ⊤}
 use Rattle.hpgl_text.specs.declared.program.TheConstants.{LONGEST_PLOT}
 use Rattle.plot_page.specs.declared.page.Page.{Page}
+use Rattle.plot_page.specs.declared.dots.Dots.{Dots}
+use Rattle.conversion.specs.PageJobs.{has_too_many_pixels}
 use Rattle.conversion.specs.Pictures.{plot_refusal}
 use Rattle.conversion.specs.declared.fault.Fault.{Fault}
-use Rattle.conversion.specs.declared.fault.Fault.TheVariants.{TooLong, Memory, Plot}
+use Rattle.conversion.specs.declared.fault.Fault.TheVariants.{TooLong, Memory, Pixels, Plot}
 
 -- it is not too long, and the definitions do not refuse it
 pub record HasDrawing (page : Page) (text : List ℕ) : Type 0 where
@@ -17,3 +19,8 @@ HasNoDrawing page text TooLong = LONGEST_PLOT < length text
 HasNoDrawing page text Memory = ⊤
 HasNoDrawing page text (Plot reason) = plot_refusal page text ≡ Some reason
 HasNoDrawing page text _ = ⊥
+
+-- nor has a plot a bitmap that has no drawing, or whose bitmap would have too many pixels, as only one on a roll can
+abbrev pub HasNoBitmap : Page → Dots → List ℕ → Fault → Type 0
+HasNoBitmap page dots text Pixels = has_too_many_pixels page dots ≡ true
+HasNoBitmap page dots text fault = HasNoDrawing page text fault

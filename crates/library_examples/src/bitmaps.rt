@@ -3,7 +3,7 @@ ghost use Rattle.std.specs.Prelude.{◌≡◌, IfOk, IfErr};
 ghost use Rattle.conversion.specs.Pictures.{picture, HasPicture};
 ghost use Rattle.rows.specs.Pictures.{exact};
 ghost use Rattle.library_examples.specs.Bitmaps.{bitmap_job};
-ghost use Rattle.library_examples.specs.Refusals.{HasNoDrawing};
+ghost use Rattle.library_examples.specs.Refusals.{HasNoBitmap};
 
 use plotraster::{Dots, Fault, Form, Job, Page, PenSet, picture_bytes};
 use std::alloc::Global;
@@ -18,7 +18,7 @@ pub fn bitmap(
 ) -> Result<Vec<u8>, Fault>
     ensures picture { IfOk result (λ bytes. bytes.items ≡ picture (bitmap_job page dots pens) exact plot.now) }
     ensures accepted { IfOk result (λ _. HasPicture (bitmap_job page dots pens) plot.now) }
-    ensures refused { IfErr result (HasNoDrawing page plot.now) }
+    ensures refused { IfErr result (HasNoBitmap page dots plot.now) }
 {
     let job = Job {
         page,
