@@ -19,4 +19,4 @@ pub use png_job::PngJob;
 pub use reading::Reading;
 pub use row_choice::RowChoice;
 pub use smoothing::Smoothing;
-pub use vector_job::{VectorFormat, VectorJob};
+pub use vector_job::{LabelChoice, VectorFormat, VectorJob};

@@ -12,8 +12,18 @@ pub enum VectorFormat {
     Dxf,
 }
 
-/// A request for a vector document: format, page and pens. Its strokes are not pixels, so it has no resolution, and it is
-/// written whole, so it has no first row.
+/// How a document has labels.
+#[derive(Clone, Copy, Debug, PartialEq, Eq)]
+pub enum LabelChoice {
+    /// As texts, where the plot's labels are kept: a DXF has texts in place of the strokes of labels, and a PDF and an SVG
+    /// have texts beside them.
+    Text,
+    /// As strokes only.
+    Strokes,
+}
+
+/// A request for a vector document: format, page, pens and labels. Its strokes are not pixels, so it has no resolution, and
+/// it is written whole, so it has no first row.
 #[derive(Clone, Copy)]
 pub struct VectorJob {
     /// The format of the document.
@@ -22,4 +32,6 @@ pub struct VectorJob {
     pub page: Page,
     /// The pens whose strokes are drawn.
     pub pens: PenSet,
+    /// How the document has the plot's labels.
+    pub labels: LabelChoice,
 }
