@@ -1,5 +1,6 @@
 -- How shapes are counted and measured, one after another.
 use Rattle.std.proofs.Common.{◌≡◌, ◌∙◌, ℕ, ◌+◌, Bool, true, false, not, ◌&&◌, ◌||◌, List, [], ◌∷◌, ◌++◌, All, map, fold, refl, ap, arith, sym}
+use Rattle.std.specs.List.{list_all}
 use Rattle.std.specs.Prelude.{if◌then◌else◌}
 use Rattle.std.proofs.lemmas.List.Elements.{All-head, All-tail}
 use Rattle.areas.specs.Shapes.{Shape, plain, stroke_shape}
@@ -10,7 +11,7 @@ use Rattle.plot_page.specs.declared.page.Page.{Page}
 use Rattle.plot_page.specs.declared.pens.PenSet.{PenSet}
 use Rattle.page_fit.specs.Census.{census_of, counted, is_beside, lies_on}
 use Rattle.page_fit.specs.Extents.{extent_of, holds_page, reach}
-use Rattle.page_fit.specs.Shapes.{counted_all, diagonal_of, diagonals, shapes_census, shapes_extent}
+use Rattle.page_fit.specs.Shapes.{counted_all, diagonal_of, diagonals, lies_off, shapes_census, shapes_extent}
 use Rattle.page_fit.specs.declared.census.Census.{Census}
 
 -- with one more stroke that is not off the page, if so many are cut
@@ -45,6 +46,13 @@ module _ (pens : PenSet) (page : Page) where
   none_counted (shape ∷ rest) census none =
       ap (λ (ss : List Segment). fold count (counted_all pens page census ss) rest) (All-head HasNoStrokes shape rest none)
       ∙ none_counted rest census (All-tail HasNoStrokes shape rest none)
+
+  -- and lie off the page
+  pub none_off : (rest : List Shape) → All HasNoStrokes rest → list_all (λ shape. lies_off pens page shape.strokes) rest ≡ true
+  none_off [] none = refl
+  none_off (shape ∷ rest) none =
+      ap (λ (ss : List Segment). lies_off pens page ss && list_all (λ it. lies_off pens page it.strokes) rest) (All-head HasNoStrokes shape rest none)
+      ∙ none_off rest (All-tail HasNoStrokes shape rest none)
 
   -- strokes by themselves are counted as they were
   plain_counted : (strokes : List Segment) (census : Census) → fold count census (map stroke_shape strokes) ≡ fold (counted pens page) census strokes

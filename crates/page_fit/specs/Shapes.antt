@@ -1,7 +1,8 @@
 -- How far shapes reach, and which lie off the page. A stroke does as before. An area does as a stroke from corner to corner of the
 -- box of its edges: what is inside of the area is in this box, but need not fill it, as a slanted stroke does not fill its own.
-use Rattle.std.specs.Prelude.{◌+◌, ◌&&◌, Bool, List, [], ◌∷◌, Option, count_by, flat_map, fold, length, not, if◌then◌else◌}
+use Rattle.std.specs.Prelude.{◌+◌, ◌&&◌, ◌||◌, Bool, true, List, [], ◌∷◌, Option, count_by, flat_map, fold, length, not, if◌then◌else◌}
 use Rattle.std.specs.Int.{int_max, int_min}
+use Rattle.std.specs.List.{list_all}
 use Rattle.areas.specs.Shapes.{Shape, ShapeList, shapes}
 use Rattle.plot_page.specs.Segments.{Segment}
 use Rattle.plot_page.specs.Pens.{has_pen}
@@ -57,3 +58,12 @@ abbrev pub shapes_census : PenSet → Page → ShapeList → Census
 shapes_census pens page list =
     fold (λ census shape. counted_all pens page census shape.strokes) (record { strokes = 0; off_page = 0; cut = 0 })
     (shapes list.strokes list.areas)
+
+-- the strokes of a shape are of no selected pen, or their diagonal is off the page
+abbrev pub lies_off : PenSet → Page → List Segment → Bool
+lies_off pens page [] = true
+lies_off pens page (s ∷ more) = not (has_pen pens s.pen) || is_beside page (reach (diagonal s more))
+
+-- all that the selected pens draw is off the page, or they draw nothing
+abbrev pub is_off_page : PenSet → Page → ShapeList → Bool
+is_off_page pens page list = list_all (λ shape. lies_off pens page shape.strokes) (shapes list.strokes list.areas)

@@ -143,9 +143,9 @@ fn lies_on(page: &Page, stroke: &Stroke) -> bool
     begins_on(page, stroke) && is_on(page, stroke.bx, stroke.by)
 }
 
-// Whether a stroke's first end lies on the page. Then the stroke does not lie beside it.
+/// Whether a stroke's first end lies on the page. Then the stroke does not lie beside it.
 #[inline]
-fn begins_on(page: &Page, stroke: &Stroke) -> bool
+pub(crate) fn begins_on(page: &Page, stroke: &Stroke) -> bool
     ensures value { result ≡ is_on page.now stroke.now.ax stroke.now.ay }
     ensures not_beside { IsTrue result → is_beside page.now (reach stroke.now) ≡ false }
 {
@@ -170,8 +170,8 @@ fn is_within(side: u32, place: i32) -> bool
     0 <= place && i64::from(place) <= 16 * i64::from(side)
 }
 
-// Whether no place of an extent lies on the page.
-fn is_beside(page: &Page, extent: Extent) -> bool
+/// Whether no place of an extent lies on the page.
+pub(crate) fn is_beside(page: &Page, extent: Extent) -> bool
     requires { IsNear extent }
     ensures { result ≡ is_beside page.now extent }
 {
