@@ -86,10 +86,10 @@ fn paint_slot<G: Gauge, C: Canvas>(
         (stroke_at scene.now.strokes.now slot) first (C.height canvas.old) (C.width canvas.old) }
     ensures grows { G.count gauge.old ≤ G.count gauge.new }
 {
-    let stroke = scene.strokes[slot as usize - 1];
+    let stroke = &scene.strokes[slot as usize - 1];
     let page = scene.page;
     let dots = scene.dots;
-    let bottom = canvas.paint(gauge, &stroke, &page, dots, first, slot);
+    let bottom = canvas.paint(gauge, stroke, &page, dots, first, slot);
     let Some(area) = scene.areas.ending_at(slot as usize, near) else {
         return bottom;
     };
@@ -100,7 +100,7 @@ fn paint_slot<G: Gauge, C: Canvas>(
         page,
         dots,
     };
-    let rows = rows_of_edges(&stroke, placed.edges, &page, dots);
+    let rows = rows_of_edges(stroke, placed.edges, &page, dots);
     let band = Span {
         low: first,
         end: past,
@@ -195,11 +195,11 @@ fn band_of_slot(scene: &Scene<'_>, slot: u32, bands: u32, near: &mut usize) -> u
     ensures { result ≡ band_of scene.now.pens scene.now.strokes.now (areas_in scene.now.areas) scene.now.page scene.now.dots
         scene.now.first_row scene.now.band_rows bands slot }
 {
-    let stroke = scene.strokes[slot as usize - 1];
+    let stroke = &scene.strokes[slot as usize - 1];
     if !scene.pens.has(stroke.pen) {
         return bands;
     }
-    let rows = rows_of_slot(scene, &stroke, slot, near);
+    let rows = rows_of_slot(scene, stroke, slot, near);
     let begin = rows.low.max(scene.first_row);
     if begin < rows.end {
         band_of_row(begin - scene.first_row, scene.band_rows)
