@@ -1,5 +1,5 @@
 -- The picture of shapes of a drawing: of all of them, or of those of one sheet.
-use Rattle.std.specs.Prelude.{◌≡◌, ℕ, List, length, Result, Ok, Err, false, true}
+use Rattle.std.specs.Prelude.{◌≡◌, ℕ, List, length, None, Result, Ok, Err, Some, false, true, if◌then◌else◌}
 use Rattle.std.specs.List.{All}
 use Rattle.areas.specs.Laws.{AreRound}
 use Rattle.areas.specs.Shapes.{NoneGoesOn, ShapeList, edges_of, stroke_count}
@@ -11,7 +11,7 @@ use Rattle.plot_page.specs.Segments.{Segment}
 use Rattle.plot_page.specs.declared.dots.Dots.{Dots}
 use Rattle.plot_page.specs.declared.page.Page.{Page}
 use Rattle.plot_page.specs.declared.pens.PenSet.{PenSet}
-use Rattle.page_fit.specs.Shapes.{shapes_census}
+use Rattle.page_fit.specs.Shapes.{is_off_page, shapes_census}
 use Rattle.picture_job.specs.declared.job.Job.{Job}
 use Rattle.picture_job.specs.declared.png_job.PngJob.{PngJob}
 use Rattle.picture_job.specs.declared.page_choice.PageChoice.{PageChoice}
@@ -69,7 +69,8 @@ pub record TellsOf (drawing : Drawing) (pens : PenSet) (shapes : ShapeList) (out
   pub notes : outcome.done.notes ≡ drawing.lines.notes
   pub placement : outcome.placement ≡ drawing.placement
   pub sheets : outcome.sheets ≡ drawing.lines.sheets
-  pub census : outcome.census ≡ shapes_census pens drawing.page shapes
+  pub off_page : outcome.is_off_page ≡ is_off_page pens drawing.page shapes
+  pub census : outcome.census ≡ (if drawing.counts then Some (shapes_census pens drawing.page shapes) else None)
 
 -- a picture of this page at this resolution is refused if it has too many pixels, and nothing is written; if not, painting it
 -- comes to this answer

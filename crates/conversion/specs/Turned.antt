@@ -25,3 +25,4 @@ pub record IsTurned (pens : PenSet) (turn : Turn) (before after : Drawing) : Typ
   pub drawn_on_is : after.drawn_on ≡ before.drawn_on
   pub corner_is : after.corner ≡ before.corner
   pub named_is : after.named ≡ before.named
+  pub counts_is : after.counts ≡ before.counts

@@ -80,6 +80,7 @@ pub(crate) fn convert_given<G: Gauge, S: Source, K: Sink>(
         carousel: &Carousel::empty(),
         choice: PageChoice::GIVEN,
         turn: Turn::None,
+        counts: false,
     };
     let request = Request::new(setup, &picture, Naming::NONE)?;
     let drawing = draw(alloc, &request, source)?;

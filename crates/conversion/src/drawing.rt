@@ -35,6 +35,7 @@ pub fn draw<S: Source>(
     requires ending { (S.state source.old).ends < 2 ^ 64 - 1 }
     ensures draws { HasDrawnTurned request.now.setup.turn (rules_in request.now.setup) request.now.setup.choice
         request.now.picture.now (S.state source.old) (S.state source.new) result }
+    ensures counts { IfOk result (λ drawing. drawing.counts ≡ request.now.setup.counts) }
     ensures end { (S.state source.new).ends ≡ (S.state source.old).ends + 1 → IsAtEnd (S.state source.new).left }
 {
     let drawing = draw_upright(alloc, request, source)?;
@@ -57,6 +58,7 @@ fn draw_upright<S: Source>(
     requires ending { (S.state source.old).ends < 2 ^ 64 - 1 }
     ensures draws { HasDrawnFor (rules_in request.now.setup) request.now.setup.choice request.now.picture.now
         (S.state source.old) (S.state source.new) result }
+    ensures counts { IfOk result (λ drawing. drawing.counts ≡ request.now.setup.counts) }
     ensures end { (S.state source.new).ends ≡ (S.state source.old).ends + 1 → IsAtEnd (S.state source.new).left }
 {
     let picture = request.picture;
@@ -99,9 +101,11 @@ pub fn read_and_draw<S: Source>(
     requires ending { (S.state source.old).ends < 2 ^ 64 - 1 }
     ensures draws { HasReadAndDrawn (rules_in setup.entry) setup.entry.choice pens page.now (S.state source.old) (S.state source.new) result }
     ensures labelled { IfOk result (λ read. read.drawing.lines.labelled ≡ keeps_labels) }
+    ensures counts { IfOk result (λ read. read.drawing.counts ≡ setup.entry.counts) }
     ensures end { (S.state source.new).ends ≡ (S.state source.old).ends + 1 → IsAtEnd (S.state source.new).left }
 {
     let text = read_plot(alloc, source)?;
-    let drawing = draw_placed(alloc, setup, pens, page, text.as_slice(), keeps_labels)?;
+    let mut drawing = draw_placed(alloc, setup, pens, page, text.as_slice(), keeps_labels)?;
+    drawing.counts = setup.counts;
     Ok(ReadPlot { text, drawing })
 }

@@ -12,7 +12,8 @@ pub struct Outcome {
     pub placement: Placement,
     /// How many sheets of the plot have strokes in the profile full; in core this is not counted, and 0.
     pub sheets: usize,
-    /// How many strokes and edges of areas the selected pens draw, or in a report all pens, and how many of these lie off the
-    /// page.
-    pub census: Census,
+    /// Whether all that the selected pens draw, or in a report all pens, lies off the page, or nothing is drawn.
+    pub is_off_page: bool,
+    /// If it is counted: how many strokes and edges of areas these pens draw, and how many of these lie off the page.
+    pub census: Option<Census>,
 }

@@ -48,6 +48,8 @@ pub struct Drawing {
     pub named: ReportPage,
     /// What the plot draws, on this page.
     pub lines: Lines,
+    /// Whether what is told of its pictures has a census.
+    pub counts: bool,
 }
 
 impl Drawing {
@@ -155,6 +157,7 @@ fn unmoved(placement: Placement, page: Page, lines: Lines) -> Drawing
         page,
         named: ReportPage::of(&page),
         lines,
+        counts: false,
     }
 }
 
@@ -219,6 +222,7 @@ fn moved(pens: PenSet, page: Page, corner: Corner, around: Page, lines: Lines) -
         page: around,
         named: named(&page, corner, &around),
         lines,
+        counts: false,
     }
 }
 

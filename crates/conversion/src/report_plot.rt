@@ -53,6 +53,7 @@ pub fn report<S: Source, K: Sink>(
         carousel: &Carousel::empty(),
         choice: PageChoice::GIVEN,
         turn: Turn::None,
+        counts: false,
     };
     match report_on(alloc, setup, page, source, sink) {
         Ok(outcome) => Ok(outcome.done),

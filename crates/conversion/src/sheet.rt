@@ -15,7 +15,7 @@ use crate::place::Drawing;
 use crate::shown::Shown;
 use areas::Shapes;
 use devices::Sink;
-use page_fit::census_of;
+use page_fit::{census_of, is_off_page};
 use picture_job::{Job, RowChoice};
 use plot_page::PenSet;
 use rows::{Watcher, end_of, paint};
@@ -86,6 +86,11 @@ pub(crate) fn outcome_of(
         },
         placement: drawing.placement,
         sheets: drawing.lines.sheets,
-        census: census_of(shapes, pens, &drawing.page),
+        is_off_page: is_off_page(shapes, &pens, &drawing.page),
+        census: if drawing.counts {
+            Some(census_of(shapes, pens, &drawing.page))
+        } else {
+            None
+        },
     }
 }

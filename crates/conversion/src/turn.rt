@@ -37,6 +37,7 @@ fn turned_drawing(drawing: Drawing, pens: &PenSet, turn: Turn) -> Drawing
         page: turned_page(turn, &page),
         named: drawing.named,
         lines: turned_lines(drawing.lines, pens, turn, &page),
+        counts: drawing.counts,
     }
 }
 

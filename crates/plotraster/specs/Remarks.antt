@@ -25,7 +25,7 @@ is_empty _ = false
 
 -- nothing that the selected pens draw is on the page
 abbrev pub is_blank : Outcome → Bool
-is_blank outcome = is_empty outcome.placement || nat_eq outcome.census.off_page outcome.census.strokes
+is_blank outcome = is_empty outcome.placement || outcome.is_off_page
 
 -- all sheets are drawn
 abbrev pub has_all_sheets : Reading → Bool

@@ -96,17 +96,17 @@ fn tell_sheets<V: Voice>(
 }
 
 // Says how many lines the selected pens drew, how many of them lie off the page, how many others are cut at its edge if any are,
-// and how many notes there are, if that is asked for.
+// and how many notes there are, if that is counted.
 fn tell_drawn<V: Voice>(voice: &mut V, line: &Line<'_, '_>, about: About<'_>, outcome: &Outcome)
     ensures { Remarks V.does voice.old voice.new }
 {
-    if line.verbose {
+    if let Some(census) = outcome.census {
         let message = Drawn {
             about,
             is_blank: is_blank(outcome),
-            lines: Lines(outcome.census.strokes),
-            off_page: outcome.census.off_page,
-            cut: Cut(outcome.census.cut),
+            lines: Lines(census.strokes),
+            off_page: census.off_page,
+            cut: Cut(census.cut),
             notes: outcome.done.notes,
             report: report_of(line),
         };
@@ -147,7 +147,7 @@ fn is_empty(placement: Placement) -> bool
 fn is_blank(outcome: &Outcome) -> bool
     ensures { result ≡ is_blank outcome.now }
 {
-    is_empty(outcome.placement) || outcome.census.off_page == outcome.census.strokes
+    is_empty(outcome.placement) || outcome.is_off_page
 }
 
 // There are more notes than lines and areas, of pens that are not drawn, too. The notes are those of the whole plot, so this is not asked

@@ -1,5 +1,5 @@
 //! The sheets of a plot, each as a picture by itself.
-ghost use Rattle.std.specs.Prelude.{◌≡◌, ◌+◌, ◌-◌, ◌^◌, ◌<◌, IfErr, false};
+ghost use Rattle.std.specs.Prelude.{◌≡◌, ◌+◌, ◌-◌, ◌^◌, ◌<◌, IfErr, IfOk, false};
 ghost use Rattle.std.specs.Io.KnownBytes.{IsAtEnd};
 ghost use Rattle.conversion.specs.Conversions.{is_write};
 ghost use Rattle.conversion.specs.Kinds.{HasDrawnTurned, IsToldOfPicture, WritesSheet};
@@ -24,6 +24,7 @@ pub fn draw_sheets<S: Source>(
     requires ending { (S.state source.old).ends < 2 ^ 64 - 1 }
     ensures draws { HasDrawnTurned request.now.setup.turn (rules_in request.now.setup) request.now.setup.choice
         request.now.picture.now (S.state source.old) (S.state source.new) result }
+    ensures counts { IfOk result (λ drawing. drawing.counts ≡ request.now.setup.counts) }
     ensures end { (S.state source.new).ends ≡ (S.state source.old).ends + 1 → IsAtEnd (S.state source.new).left }
 {
     draw(alloc, request, source)

@@ -171,12 +171,14 @@ fn setup_of<'r>(line: &'r Line<'_, '_>, reading: Reading) -> Setup<'r>
     ensures carousel { result.carousel.now ≡ line.now.carousel }
     ensures choice { result.choice ≡ line.now.choice }
     ensures turn { result.turn ≡ line.now.turn }
+    ensures counts { result.counts ≡ line.now.verbose }
 {
     Setup {
         reading,
         carousel: &line.carousel,
         choice: line.choice,
         turn: line.turn,
+        counts: line.verbose,
     }
 }
 

@@ -38,6 +38,7 @@ fn drawn(
             carousel: &carousel,
             choice: PageChoice::GIVEN,
             turn: Turn::None,
+            counts: false,
         },
         &Task::Picture(picture),
         naming_of(""),

@@ -2,7 +2,7 @@
 use hpgl_plot::PlotFault;
 use hpgl_text::TextFault;
 use plotraster::{
-    Census, Done, Fault, Outcome, PageFault, Placement, SinkFault, exit_status, number, status,
+    Done, Fault, Outcome, PageFault, Placement, SinkFault, exit_status, number, status,
 };
 use std::test::Fail;
 use stroke_raster::PaintFault;
@@ -62,11 +62,8 @@ fn numbers_and_texts(rt: HostRuntime) -> Result<(), Fail> {
         done,
         placement: Placement::Given,
         sheets: 0,
-        census: Census {
-            strokes: 2,
-            off_page: 0,
-            cut: 0,
-        },
+        is_off_page: false,
+        census: None,
     };
     assert_eq!(rt; exit_status(&Ok(outcome)), 0);
     Ok(())

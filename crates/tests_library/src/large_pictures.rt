@@ -111,6 +111,7 @@ fn tell(
             carousel: &Carousel::empty(),
             choice,
             turn: Turn::None,
+            counts: false,
         },
         &Task::Picture(picture),
         naming_of(""),

@@ -48,6 +48,7 @@ pub fn placed_on(
             carousel: &Carousel::empty(),
             choice,
             turn: Turn::None,
+            counts: true,
         },
         page,
         &mut source,
@@ -58,7 +59,7 @@ pub fn placed_on(
         .lines()
         .next()
         .ok_or("no line")?;
-    let (placement, census) = (outcome.placement, outcome.census);
+    let (placement, census) = (outcome.placement, outcome.census.ok_or("no census")?);
     let (strokes, off_page, cut) = (census.strokes, census.off_page, census.cut);
     Ok(format!(in alloc; "{placement:?} {strokes} {off_page} {cut} {line}")?)
 }

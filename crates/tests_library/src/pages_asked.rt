@@ -148,6 +148,7 @@ fn drawn(alloc: Global, choice: PageChoice, plot: &[u8]) -> Result<String, Fail>
             carousel: &Carousel::empty(),
             choice,
             turn: Turn::None,
+            counts: false,
         },
         &Task::Picture(Picture::Rows {
             job,
@@ -222,6 +223,7 @@ fn refusal(
             carousel: &Carousel::empty(),
             choice,
             turn: Turn::None,
+            counts: false,
         },
         &page,
         &mut source,

@@ -2,8 +2,8 @@
 use crate::cases::text_of;
 use crate::pages::{eight_by_eight, placed_on};
 use plotraster::{
-    Carousel, Encoding, Form, Job, OverRead, OverWrite, PageChoice, PenSet, Picture, Reading,
-    RowChoice, Setup, Smoothing, Task, Turn, Unwatched, naming_of, run_task,
+    Carousel, Encoding, Form, Job, OverRead, OverWrite, Page, PageChoice, PenSet, Picture, Reading,
+    RowChoice, Setup, Smoothing, Task, Turn, Unwatched, naming_of, report_on, run_task,
 };
 use std::alloc::Global;
 use std::test::Fail;
@@ -165,6 +165,7 @@ fn drawn(alloc: Global, pens: PenSet, plot: &[u8]) -> Result<String, Fail> {
             carousel: &Carousel::empty(),
             choice,
             turn: Turn::None,
+            counts: true,
         },
         &Task::Picture(Picture::Rows {
             job,
@@ -178,7 +179,8 @@ fn drawn(alloc: Global, pens: PenSet, plot: &[u8]) -> Result<String, Fail> {
     let outcome = answer?;
     let written = sink.into_inner();
     let marks = text_of(written.as_slice())?;
-    let (rows, placement, census) = (outcome.done.rows, outcome.placement, outcome.census);
+    let (rows, placement) = (outcome.done.rows, outcome.placement);
+    let census = outcome.census.ok_or("no census")?;
     let (strokes, off_page) = (census.strokes, census.off_page);
     Ok(format!(in alloc; "{rows} rows, {placement:?}, {strokes} and {off_page}\n{marks}")?)
 }
@@ -255,5 +257,39 @@ fn pages_around_areas(rt: HostRuntime) -> Result<(), Fail> {
         found = found.saturating_add(1);
     }
     assert_eq!(rt; found, 7);
+    Ok(())
+}
+
+// Whether all of a plot is off the page that is chosen, and how many of its strokes are, if they are counted.
+fn off_the_page(alloc: Global, choice: PageChoice, counts: bool) -> Result<String, Fail> {
+    let setup = Setup {
+        reading: Reading::Core,
+        carousel: &Carousel::empty(),
+        choice,
+        turn: Turn::None,
+        counts,
+    };
+    let page = Page::new(64, 64, 0, 0)?;
+    let mut source = OverRead::new(b"SP1;PW0;PU70,0;PD200,100;".as_slice());
+    let mut sink = OverWrite::new(Vec::new(alloc));
+    let outcome = report_on(alloc, setup, &page, &mut source, &mut sink)?;
+    let is_off = outcome.is_off_page;
+    Ok(match outcome.census {
+        Some(census) => {
+            let (strokes, off_page) = (census.strokes, census.off_page);
+            format!(in alloc; "{is_off}: {off_page} of {strokes}")?
+        }
+        None => format!(in alloc; "{is_off}")?,
+    })
+}
+
+#[test]
+fn what_is_off_the_page(rt: HostRuntime) -> Result<(), Fail> {
+    let given = off_the_page(rt.alloc(), PageChoice::GIVEN, true)?;
+    assert_eq!(rt; given.as_str(), "true: 1 of 1");
+    let uncounted = off_the_page(rt.alloc(), PageChoice::GIVEN, false)?;
+    assert_eq!(rt; uncounted.as_str(), "true");
+    let around = off_the_page(rt.alloc(), fitted(0), true)?;
+    assert_eq!(rt; around.as_str(), "false: 0 of 1");
     Ok(())
 }

@@ -70,6 +70,7 @@ fn run(alloc: Global, job: &PngJob, plot: &[u8], writer: Writer) -> Answered {
             carousel: &Carousel::empty(),
             choice: PageChoice::GIVEN,
             turn: Turn::None,
+            counts: false,
         },
         &Task::Picture(Picture::Png(*job)),
         naming_of(""),

@@ -38,6 +38,7 @@ fn run<'a>(alloc: Global, task: &Task, plot: &'a [u8], writer: Writer) -> Answer
             carousel: &Carousel::empty(),
             choice: PageChoice::GIVEN,
             turn: Turn::None,
+            counts: false,
         },
         task,
         naming_of(""),

@@ -45,6 +45,7 @@ fn sum_of(alloc: Global, picture: Picture) -> Result<u32, Fault> {
         carousel: &Carousel::empty(),
         choice: PageChoice::GIVEN,
         turn: Turn::None,
+        counts: false,
     };
     let request = Request::new(setup, &picture, UNNAMED)?;
     let drawing = draw(alloc, &request, &mut OverRead::new(LINES))?;

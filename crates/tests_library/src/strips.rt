@@ -50,6 +50,7 @@ fn strip_of(
             carousel: &Carousel::empty(),
             choice: PageChoice::GIVEN,
             turn: Turn::None,
+            counts: false,
         },
         &task,
         naming_of(""),
@@ -162,6 +163,7 @@ fn tests_of(alloc: Global, picture: &Picture) -> Result<u64, Fail> {
         carousel: &carousel,
         choice: PageChoice::GIVEN,
         turn: Turn::None,
+        counts: false,
     };
     let request = Request::new(setup, picture, naming_of(""))?;
     let drawing = draw(alloc, &request, &mut OverRead::new(LINE))?;

@@ -77,6 +77,7 @@ fn request<'a>(
         carousel,
         choice: PageChoice::GIVEN,
         turn,
+        counts: false,
     };
     Ok(Request::new(setup, picture, UNNAMED)?)
 }

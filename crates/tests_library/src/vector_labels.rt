@@ -58,6 +58,7 @@ fn labels_of_one_sheet(rt: HostRuntime) -> Result<(), Fail> {
         carousel: &Carousel::empty(),
         choice: PageChoice::GIVEN,
         turn: Turn::None,
+        counts: false,
     };
     let request = Request::new(setup, &picture, naming_of(""))?;
     let drawing = draw_sheets(alloc, &request, &mut OverRead::new(Reader::new(LABELLED)))?;

@@ -66,6 +66,7 @@ pub fn run(
             carousel: &Carousel::empty(),
             choice: PageChoice::GIVEN,
             turn: Turn::None,
+            counts: false,
         },
         &Task::Picture(Picture::Vector(job)),
         naming,
@@ -148,6 +149,7 @@ fn one_sheet_has_no_group(rt: HostRuntime) -> Result<(), Fail> {
         carousel: &Carousel::empty(),
         choice: PageChoice::GIVEN,
         turn: Turn::None,
+        counts: false,
     };
     let request = Request::new(setup, &picture, naming_of(""))?;
     let drawing = draw_sheets(alloc, &request, &mut OverRead::new(Reader::new(SHEETS)))?;
@@ -262,6 +264,7 @@ fn fitted_documents(rt: HostRuntime) -> Result<(), Fail> {
                 carousel: &Carousel::empty(),
                 choice,
                 turn: Turn::None,
+                counts: false,
             },
             &Task::Picture(Picture::Vector(job_of(format, PenSet::all())?)),
             naming_of(""),
@@ -354,6 +357,7 @@ fn refused_plots(rt: HostRuntime) -> Result<(), Fail> {
                 carousel: &Carousel::empty(),
                 choice,
                 turn: Turn::None,
+                counts: false,
             },
             &Task::Picture(Picture::Vector(job)),
             naming_of(""),

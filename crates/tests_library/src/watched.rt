@@ -57,6 +57,7 @@ fn is_told(
             carousel: &Carousel::empty(),
             choice: PageChoice::GIVEN,
             turn: Turn::None,
+            counts: false,
         },
         &Task::Picture(rows_of(job)),
         naming_of(""),
@@ -111,6 +112,7 @@ fn is_not_told(rt: &impl Abort, alloc: Global, picture: Picture, plot: &[u8]) ->
             carousel: &Carousel::empty(),
             choice: PageChoice::GIVEN,
             turn: Turn::None,
+            counts: false,
         },
         &Task::Picture(picture),
         naming_of(""),
@@ -155,6 +157,7 @@ fn watchers_of_sheets_that_are_not_possible(rt: HostRuntime) -> Result<(), Fail>
         carousel: &Carousel::empty(),
         choice: PageChoice::GIVEN,
         turn: Turn::None,
+        counts: false,
     };
     let asked = Request::new(setup, &picture, naming_of(""));
     assert_eq!(rt; asked.err(), Some(Fault::Resolution));

@@ -2,14 +2,14 @@
 use areas::{Areas, Shapes};
 use full_plot::draw_full;
 use hpgl_plot::Page;
-use page_fit::{Census, census_of, extent_of};
+use page_fit::{Census, census_of, extent_of, is_off_page};
 use plot_page::PenSet;
 use std::alloc::Global;
 use std::process::Abort;
 use std::test::Fail;
 
 // A pen, or 0 for all of them, and a plot. On the next line how far its shapes are seen, in grains, how many strokes and edges there
-// are, how many of them are off the page, and how many others are cut at its edge.
+// are, how many of them are off the page, how many others are cut at its edge, and whether all that is drawn is off the page.
 const CASES: &str = "\
 0 IW10,10,30,40;PU0,0;RA100,100;
 160,160 480,640: 4 0 0
@@ -24,13 +24,13 @@ nothing: 4 0 0
 -160,-160 1600,1600: 4 0 4
 
 0 PU65,0;RA100,64;
-1040,0 1600,1024: 4 4 0
+1040,0 1600,1024: 4 4 0, off the page
 
 0 PU64,0;RA100,64;
 1024,0 1600,1024: 4 0 3
 
 0 PU0,-60;RA64,-1;
-0,-960 1024,-16: 4 4 0
+0,-960 1024,-16: 4 4 0, off the page
 
 0 PU20,30;PM0;PD40,5,10,50;PM2;FP;
 160,80 640,800: 3 0 0
@@ -50,8 +50,14 @@ nothing: 4 0 0
 2 SP1;PU0,0;RA10,10;SP2;PU20,20;RA30,40;
 320,320 480,640: 4 0 0
 
+0 PU80,0;PD90,0;
+1168,-112 1552,112: 1 1 0, off the page
+
+0 PU65,0;RA100,64;PU80,0;PD0,0;
+-112,-112 1600,1024: 5 4 1
+
 3 SP1;PU0,0;RA10,10;SP2;PU20,20;RA30,40;
-nothing: 0 0 0
+nothing: 0 0 0, off the page
 ";
 
 // What is measured and counted of the shapes of a plot.
@@ -74,7 +80,11 @@ fn measured(alloc: Global, pens: PenSet, plot: &str) -> Result<String, Fail> {
         }
         None => format!(in alloc; "nothing: {strokes} {off_page} {cut}")?,
     };
-    Ok(text)
+    if is_off_page(shapes, &pens, &page) {
+        Ok(format!(in alloc; "{text}, off the page")?)
+    } else {
+        Ok(text)
+    }
 }
 
 #[test]
@@ -91,6 +101,6 @@ fn extents_and_counts(rt: HostRuntime) -> Result<(), Fail> {
         assert_eq!(rt; answer.as_str(), wanted, "{plot}");
         found = found.saturating_add(1);
     }
-    assert_eq!(rt; found, 14);
+    assert_eq!(rt; found, 16);
     Ok(())
 }

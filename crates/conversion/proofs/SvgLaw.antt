@@ -1,0 +1,21 @@
+-- The SVG of strokes, areas and labels among which sheets end, read back.
+use Rattle.std.proofs.Common.{◌≡◌, ℕ, List, [], ◌∷◌, All, Some, map}
+use Rattle.areas.specs.Shapes.{AreApart, NoneGoesOn, shapes}
+use Rattle.areas.specs.declared.area.Area.{Area}
+use Rattle.labels.specs.Labels.{AreBeside, LabelShape}
+use Rattle.plot_page.specs.Segments.{Segment}
+use Rattle.plot_page.specs.declared.page.Page.{Page}
+use Rattle.plot_page.specs.declared.pens.PenSet.{PenSet}
+use Rattle.stroke_runs.specs.Drawn.{drawn_shapes}
+use Rattle.stroke_runs.specs.Ranges.{IsInRange}
+use Rattle.stroke_runs.specs.Shown.{shown_shape}
+use Rattle.svg.specs.Reader.{read_svg}
+use Rattle.svg.proofs.BytesLaw.{bytes_read, sheet_bytes_read}
+use Rattle.conversion.specs.Vectors.{svg_of}
+
+pub svg_read : (page : Page) (pens : PenSet) (strokes : List Segment) (areas : List Area) (ends : List ℕ) (labels : List LabelShape)
+    → All IsInRange strokes → AreApart 0 areas → All (λ end. NoneGoesOn end areas) ends → AreBeside areas labels
+    → read_svg (svg_of page pens strokes areas ends labels) ≡ Some (map shown_shape (drawn_shapes pens (shapes strokes areas)))
+svg_read page pens strokes areas [] labels near apart beside among = bytes_read page pens strokes areas labels near apart among
+svg_read page pens strokes areas (end ∷ ends) labels near apart beside among =
+    sheet_bytes_read page pens strokes areas (end ∷ ends) labels near apart beside among
