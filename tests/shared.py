@@ -15,7 +15,7 @@ DEBIAN = {
     "gs": "ghostscript", "lintian": "lintian", "man": "man-db", "mutool": "mupdf-tools", "parallel": "parallel",
     "pdfgrep": "pdfgrep", "pdfinfo": "poppler-utils", "pdftoppm": "poppler-utils", "pdftotext": "poppler-utils",
     "pngcheck": "pngcheck", "qpdf": "qpdf", "readelf": "binutils", "rsvg-convert": "librsvg2-bin",
-    "update-mime-database": "shared-mime-info", "xmllint": "libxml2-utils", "zsh": "zsh",
+    "update-mime-database": "shared-mime-info", "valgrind": "valgrind", "xmllint": "libxml2-utils", "zsh": "zsh",
 }
 
 # A line of a bitmap is a number: its bits are the pixels, the leftmost is the highest.

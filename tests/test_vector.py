@@ -175,5 +175,6 @@ def test_long_pages(width, unit, program, tmp_path):
     words = ["--profile=full", f"--width={width}", "--height=64"]
     pdf, _ = checked(program, words, f"PU0,0;PD{width},0;".encode(), tmp_path)
     assert pdf.count(b"/UserUnit") == (unit > 1) and (unit == 1 or b"/UserUnit %d" % unit in pdf)
+    assert pdf.startswith(b"%PDF-1.5\n" if unit == 1 else b"%PDF-1.6\n")
     left, _, right, _ = box_of_pdf(tmp_path / "plan.pdf")
     assert left == 0 and abs(right - width * 72 / 1016) < 0.01

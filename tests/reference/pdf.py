@@ -14,7 +14,8 @@ from .pdf_fonts import fonts_of
 from .reading import Wrong, inflated, must
 from .vectors import Document
 
-HEADER = b"%PDF-1.5\n%\xe2\xe3\xcf\xd3\n"
+# By whether pages have units of more than a point, which are of PDF 1.6.
+HEADERS = {False: b"%PDF-1.5\n%\xe2\xe3\xcf\xd3\n", True: b"%PDF-1.6\n%\xe2\xe3\xcf\xd3\n"}
 END = re.compile(rb"\nstartxref\n([1-9][0-9]*)\n%%EOF\n\Z")
 TABLE = re.compile(rb"xref\n0 ([1-9][0-9]*)\n0000000000 65535 f \n((?:[0-9]{10} 00000 n \n)+)trailer\n")
 TOKEN = re.compile(
@@ -68,6 +69,7 @@ def read_pdf(data):
     must(set(units) <= {unit}, f"units of {[unit, *units]} points")
     width, height = (units_of(side, unit) for side in box[2:])
     must(unit == -(-max(width, height) // LONGEST), f"a unit of {unit} points")
+    must(data.startswith(HEADERS[unit > 1]), f"a version that has no unit of {unit} points")
     found = [shapes_of(content, width, height, unit) for _, content in contents]
     sheets = [shapes for shapes, _ in found]
     must({it.pen for shapes in sheets for it in shapes} == set(layers), "a layer without a shape, or a shape without one")
@@ -89,7 +91,7 @@ def text_of(row, characters):
 def table_of(data):
     """Where each object begins, where the table does, and the trailer."""
     end = END.search(data)
-    must(data.startswith(HEADER) and end, "no header, or no end")
+    must(data.startswith(tuple(HEADERS.values())) and end, "no header, or no end")
     at = int(end[1])
     table = TABLE.match(data, at)
     must(table, f"no table at byte {at}")
@@ -104,7 +106,7 @@ class Objects:
     """The objects of a document, each from where the table says up to where the next one begins."""
 
     def __init__(self, data, bounds):
-        must(bounds[0] == len(HEADER) and bounds == sorted(set(bounds)), "where objects begin")
+        must(bounds[0] == len(HEADERS[False]) and bounds == sorted(set(bounds)), "where objects begin")
         self.used = set()
         self.texts = []
         for number, (first, last) in enumerate(zip(bounds, bounds[1:]), 1):

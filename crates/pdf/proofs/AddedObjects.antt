@@ -8,6 +8,7 @@ use Rattle.pieces.proofs.Texts.{none_put, puts_as, ◌then◌}
 use Rattle.pdf.specs.Numbers.{ten_digits}
 use Rattle.pdf.specs.Objects.{entries_text, object_text, objects_text, offsets_of, table_text, trailer_text}
 use Rattle.pdf.specs.Documents.{document_text, end_text, header_text}
+use Rattle.pdf.specs.declared.units.PageUnit.{PageUnit}
 use Rattle.pdf.specs.Writings.{Adds, object_end, object_start, places}
 
 pub objects_join : (before : ℕ) (xs ys : List (List ℕ)) → objects_text before (xs ++ ys) ≡ objects_text before xs ++ objects_text (before + length xs) ys
@@ -102,14 +103,15 @@ end_counted os counts at at' is e =
     ∙ ap (λ (k : ℕ). table_text os ++ (codes "trailer\n<</Size " ++ decimal (length os + 1) ++ codes "/Root 1 0 R/Info 2 0 R>>\nstartxref\n" ++ decimal k ++ codes "\n%%EOF\n")) e
 
 -- the header, objects and what comes after them were put into a new text
-pub document_added : {K : Type 0} {state : K → SinkState} {a b c d : Text K} {o p counts : List ℕ} {all : List (List ℕ)} → count_of a ≡ 0
-    → Puts state a b header_text → Adds state b c o p 0 all → counts ≡ take (length all) p → Puts state c d (end_text counts (count_of c)) → Puts state a d (document_text all)
-document_added {a = a} {b = b} {c = c} {p = p} {counts = counts} {all = all} new put added is last =
-    let os = offsets_of (length header_text) 0 all in
-    let at : counted (count_of b) ≡ counted (length header_text) = omega (arith, new, put.count) in
+pub document_added : {K : Type 0} {state : K → SinkState} {a b c d : Text K} {o p counts : List ℕ} {unit : PageUnit} {all : List (List ℕ)} → count_of a ≡ 0
+    → Puts state a b (header_text unit) → Adds state b c o p 0 all → counts ≡ take (length all) p → Puts state c d (end_text counts (count_of c)) → Puts state a d (document_text unit all)
+document_added {a = a} {b = b} {c = c} {p = p} {counts = counts} {unit = unit} {all = all} new put added is last =
+    let header = header_text unit in
+    let os = offsets_of (length header) 0 all in
+    let at : counted (count_of b) ≡ counted (length header) = omega (arith, new, put.count) in
     let size : length all ≡ 0 + length all = omega arith in
     let noted : counts ≡ map counted os =
-    is ∙ ap (λ (n : ℕ). take n p) size ∙ added.noted ∙ places_counted (count_of b) (length header_text) 0 all at in
-    let end : counted (count_of c) ≡ counted (length (header_text ++ objects_text 0 all)) =
-    omega (arith, new, put.count, added.puts.count, length-append header_text (objects_text 0 all)) in
-    puts_as (put then added.puts then last) (ap (λ (z : List ℕ). (header_text ++ objects_text 0 all) ++ z) (end_counted os counts (length (header_text ++ objects_text 0 all)) (count_of c) noted end))
+    is ∙ ap (λ (n : ℕ). take n p) size ∙ added.noted ∙ places_counted (count_of b) (length header) 0 all at in
+    let end : counted (count_of c) ≡ counted (length (header ++ objects_text 0 all)) =
+    omega (arith, new, put.count, added.puts.count, length-append header (objects_text 0 all)) in
+    puts_as (put then added.puts then last) (ap (λ (z : List ℕ). (header ++ objects_text 0 all) ++ z) (end_counted os counts (length (header ++ objects_text 0 all)) (count_of c) noted end))

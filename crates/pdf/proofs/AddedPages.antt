@@ -163,7 +163,7 @@ objects_size version title page pens rows ends pages areas labels streams set ar
 
 -- the whole document was put into a new text
 pub pdf_put : {K : Type 0} {state : K → SinkState} {a b c d e f g : Text K} {o p q r s : List ℕ} (layers fonts all : ℕ) (version title : List ℕ) (page : Page) (set : PenSet) (strokes : List Segment) (areas : List Area) (ends : List ℕ) (labels : List LabelShape) (pens rows : List ℕ) (streams : List (List ℕ))
-    → count_of a ≡ 0 → Puts state a b header_text → Adds state b c o p 0 (front version title page pens rows ends) → Adds state c d p q 4 (layer_objects pens)
+    → count_of a ≡ 0 → Puts state a b (header_text (unit_of page)) → Adds state b c o p 0 (front version title page pens rows ends) → Adds state c d p q 4 (layer_objects pens)
     → Adds state d e q r layers (font_objects layers rows) → Adds state e f r s fonts (pages_objects (unit_of page) fonts streams) → Puts state f g (end_text (take all s) (count_of f))
     → AreStreams page set (sheets strokes 0 ends) (page_areas areas 0 ends) (sheet_labels labels 0 ends) streams
     → layers ≡ 4 + length pens → fonts ≡ 4 + length pens + font_count rows → all ≡ fonts + 3 * length ends
@@ -174,7 +174,7 @@ pdf_put {s = s} layers fonts all version title page set strokes areas ends label
     let added = objects_added version title page pens rows ends streams first second third fourth layers_is fonts_is in
     let count : all ≡ length bodies =
     omega (arith, all_is, fonts_is, objects_size version title page pens rows ends (sheets strokes 0 ends) (page_areas areas 0 ends) (sheet_labels labels 0 ends) streams set are (sheets_size strokes 0 ends)) in
-    puts_as (document_added {all = bodies} new head added (ap (λ (k : ℕ). take k s) count) end)
+    puts_as (document_added {unit = unit_of page} {all = bodies} new head added (ap (λ (k : ℕ). take k s) count) end)
     (ap (λ (z : List ℕ). pdf_bytes version title page z rows ends streams) pens_are
     ∙ ap (λ (z : List ℕ). pdf_bytes version title page (pens_drawn set strokes) z ends streams) rows_are)
 

@@ -1,5 +1,5 @@
 -- The bytes of small documents.
-use Rattle.std.proofs.Common.{◌≡◌, ◌^◌, ℕ, ℤ, pos, negsuc, List, [], ◌∷◌, ◌++◌, codes, length, map, refl, replicate, true, arith, Some, None}
+use Rattle.std.proofs.Common.{◌≡◌, ◌*◌, ◌^◌, ℕ, ℤ, pos, negsuc, List, [], ◌∷◌, ◌++◌, codes, length, map, refl, replicate, true, arith, Some, None}
 use Rattle.std.specs.Fmt.{digits}
 use Rattle.plot_page.specs.Segments.{Segment}
 use Rattle.plot_page.specs.declared.colour.Colour.{Colour}
@@ -11,11 +11,11 @@ use Rattle.areas.specs.Shapes.{Shape}
 use Rattle.areas.specs.declared.area.Area.{Area}
 use Rattle.labels.specs.Labels.{LabelShape, LineShape}
 use Rattle.pdf.specs.Contents.{content_text, lines_operators, runs_operators, stroke_operators, texts_operators}
-use Rattle.pdf.specs.Operators.{colour_text, operators_text}
+use Rattle.pdf.specs.Operators.{colour_text, operators_text, scale_factor}
 use Rattle.pdf.specs.Documents.{font_object, font_objects, header_text, page_object, pdf_bytes, pens_drawn, resources_text, rows_shown, sheet_labels, sheets}
 use Rattle.pdf.specs.Units.{unit_by}
 use Rattle.pdf.specs.declared.units.PageUnit.TheVariants.{One, Two, Three}
-use Rattle.pdf.specs.Numbers.{part, points, rounded, signed_thousandths, utf_16_text}
+use Rattle.pdf.specs.Numbers.{nearest, part, points, rounded, signed_thousandths, ten_digits, utf_16_text}
 use Rattle.pdf.specs.TextReadings.{placed, texts_of}
 use Rattle.pdf.specs.Texts.{above, along, pieces}
 use Rattle.pdf.specs.Objects.{entry_text, objects_text, offsets_of}
@@ -89,6 +89,34 @@ units : Table unit_by (
     ∷ []
     )
 units = refl
+
+-- how many units a grain is, which is 9/2032 point, by how many points a unit has; to 12 decimals
+abbrev grain_in_units : ℕ → List ℕ
+grain_in_units count = codes "0.00" ++ ten_digits (nearest (9 * 10 ^ 12) (2032 * count))
+
+grains_in_units : Table grain_in_units (
+    (1, codes "0.004429133858")  -- 9/2032 is 0.00442913385826..
+    ∷ (2, codes "0.002214566929")  -- 9/4064 is 0.00221456692913..
+    ∷ (3, codes "0.001476377953")  -- 9/6096 is 0.00147637795275..
+    ∷ []
+    )
+grains_in_units = refl
+
+scale_factors : Table scale_factor (
+    (One, grain_in_units 1)  -- a point
+    ∷ (Two, grain_in_units 2)  -- two points
+    ∷ (Three, grain_in_units 3)  -- three points
+    ∷ []
+    )
+scale_factors = refl
+
+headers : Table header_text (
+    (One, codes "%PDF-1.5\n%" ++ 226 ∷ 227 ∷ 207 ∷ 211 ∷ 10 ∷ [])  -- no entry of a later version
+    ∷ (Two, codes "%PDF-1.6\n%" ++ 226 ∷ 227 ∷ 207 ∷ 211 ∷ 10 ∷ [])  -- pages have `/UserUnit`
+    ∷ (Three, codes "%PDF-1.6\n%" ++ 226 ∷ 227 ∷ 207 ∷ 211 ∷ 10 ∷ [])  -- so have these
+    ∷ []
+    )
+headers = refl
 
 -- lengths in units of three points
 long_lengths : Table (points 3) (
@@ -204,7 +232,7 @@ unfolding digits
 where_they_begin = refl
 
 -- a document without pages
-no_pages : pdf_bytes (codes "1") [] page [] [] [] [] ≡ header_text ++ codes "1 0 obj\n<</Type/Catalog/Pages 3 0 R/OCProperties<</OCGs 4 0 R/D<</Order 4 0 R/ON 4 0 R>>>>>>\nendobj\n2 0 obj\n<</Producer(plotraster 1)>>\nendobj\n3 0 obj\n<</Type/Pages/MediaBox[0 0 72 144]/Resources<</Properties<<>>>>/Count 0/Kids[]>>\nendobj\n4 0 obj\n[]\nendobj\nxref\n0 5\n0000000000 65535 f \n0000000015 00000 n \n0000000115 00000 n \n0000000158 00000 n \n0000000254 00000 n \ntrailer\n<</Size 5/Root 1 0 R/Info 2 0 R>>\nstartxref\n272\n%%EOF\n"
+no_pages : pdf_bytes (codes "1") [] page [] [] [] [] ≡ header_text One ++ codes "1 0 obj\n<</Type/Catalog/Pages 3 0 R/OCProperties<</OCGs 4 0 R/D<</Order 4 0 R/ON 4 0 R>>>>>>\nendobj\n2 0 obj\n<</Producer(plotraster 1)>>\nendobj\n3 0 obj\n<</Type/Pages/MediaBox[0 0 72 144]/Resources<</Properties<<>>>>/Count 0/Kids[]>>\nendobj\n4 0 obj\n[]\nendobj\nxref\n0 5\n0000000000 65535 f \n0000000015 00000 n \n0000000115 00000 n \n0000000158 00000 n \n0000000254 00000 n \ntrailer\n<</Size 5/Root 1 0 R/Info 2 0 R>>\nstartxref\n272\n%%EOF\n"
 unfolding digits
 no_pages = refl
 

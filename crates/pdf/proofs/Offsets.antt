@@ -4,6 +4,7 @@ use Rattle.std.proofs.Math.Seq.{take-append_seam, drop-append_seam}
 use Rattle.pdf.specs.Documents.{document_text, end_text, header_text}
 use Rattle.pdf.specs.Laws.{BeginsAt}
 use Rattle.pdf.specs.Objects.{object_text, objects_text, offsets_of}
+use Rattle.pdf.specs.declared.units.PageUnit.{PageUnit}
 
 pub offsets_size : (at before : ℕ) (xs : List (List ℕ)) → length (offsets_of at before xs) ≡ length xs
 offsets_size at before [] = refl
@@ -33,10 +34,11 @@ begins_after front after before (x ∷ xs) (suc k) lt =
     let number : before + 1 + k ≡ before + suc k = omega arith in
     subst R number (subst Q (length-append front first) (subst P same (begins_after (front ++ first) after (before + 1) xs k (omega (arith, lt)))))
 
-pub begins : (all : List (List ℕ)) (k : ℕ) → k < length all → BeginsAt (document_text all) (get_or (offsets_of (length header_text) 0 all) k 0) (object_text k (get_or all k []))
-begins all k lt =
-    let after = end_text (offsets_of (length header_text) 0 all) (length (header_text ++ objects_text 0 all)) in
-    let P : ℕ → Type 0 = λ n. BeginsAt (document_text all) (get_or (offsets_of (length header_text) 0 all) k 0) (object_text n (get_or all k [])) in
-    let Q : List ℕ → Type 0 = λ z. BeginsAt z (get_or (offsets_of (length header_text) 0 all) k 0) (object_text (0 + k) (get_or all k [])) in
+pub begins : (unit : PageUnit) (all : List (List ℕ)) (k : ℕ) → k < length all → BeginsAt (document_text unit all) (get_or (offsets_of (length (header_text unit)) 0 all) k 0) (object_text k (get_or all k []))
+begins unit all k lt =
+    let header = header_text unit in
+    let after = end_text (offsets_of (length header) 0 all) (length (header ++ objects_text 0 all)) in
+    let P : ℕ → Type 0 = λ n. BeginsAt (document_text unit all) (get_or (offsets_of (length header) 0 all) k 0) (object_text n (get_or all k [])) in
+    let Q : List ℕ → Type 0 = λ z. BeginsAt z (get_or (offsets_of (length header) 0 all) k 0) (object_text (0 + k) (get_or all k [])) in
     let number : 0 + k ≡ k = omega arith in
-    subst P number (subst Q (sym (append_assoc header_text (objects_text 0 all) after)) (begins_after header_text after 0 all k lt))
+    subst P number (subst Q (sym (append_assoc header (objects_text 0 all) after)) (begins_after header after 0 all k lt))

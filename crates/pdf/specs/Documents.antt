@@ -1,4 +1,4 @@
--- A whole PDF document, version 1.5.
+-- A whole PDF document, of version 1.5, or 1.6 if its pages have larger units.
 use Rattle.std.specs.Prelude.{◌≡◌, ℕ, zero, suc, ◌+◌, ◌==◌, ◌&&◌, ◌||◌, Bool, false, List, [], ◌∷◌, ◌++◌, length, take, drop}
 use Rattle.std.specs.Prelude.{◌*◌, filter, Some, codes, decimal, if◌then◌else◌}
 use Rattle.std.specs.List.{list_any, range_with_len}
@@ -50,9 +50,15 @@ pens_drawn pens strokes = filter (has_drawn pens strokes) (range_with_len 0 256)
 abbrev pub rows_shown : PenSet → List Segment → List LabelShape → List ℕ
 rows_shown pens strokes labels = filter (λ row. list_any (shows_row pens strokes row) labels) (range_with_len 0 256)
 
+-- the version: units of more than a point are of PDF 1.6
+abbrev pub version_text : PageUnit → List ℕ
+version_text One = codes "%PDF-1.5\n"
+version_text Two = codes "%PDF-1.6\n"
+version_text Three = codes "%PDF-1.6\n"
+
 -- the version, and a comment with bytes that no text has
-abbrev pub header_text : List ℕ
-header_text = codes "%PDF-1.5\n%" ++ 226 ∷ 227 ∷ 207 ∷ 211 ∷ 10 ∷ []
+abbrev pub header_text : PageUnit → List ℕ
+header_text unit = version_text unit ++ (codes "%" ++ 226 ∷ 227 ∷ 207 ∷ 211 ∷ 10 ∷ [])
 
 -- the first object: the root, whose layers are listed in the fourth one
 abbrev pub catalog_text : List ℕ
@@ -198,17 +204,17 @@ objects version title page pens rows ends streams =
 abbrev pub end_text : List ℕ → ℕ → List ℕ
 end_text offsets at = table_text offsets ++ trailer_text (length offsets) at
 
--- a document of these objects
-abbrev pub document_text : List (List ℕ) → List ℕ
-document_text all =
-    header_text ++ objects_text 0 all
-    ++ end_text (offsets_of (length header_text) 0 all) (length (header_text ++ objects_text 0 all))
+-- a document of these objects, whose pages have this unit
+abbrev pub document_text : PageUnit → List (List ℕ) → List ℕ
+document_text unit all =
+    header_text unit ++ objects_text 0 all
+    ++ end_text (offsets_of (length (header_text unit)) 0 all) (length (header_text unit ++ objects_text 0 all))
 
 -- a document with a layer for each of these pens, a font for each of these rows, and a page for each sheet, whose
 -- contents are in these streams
 abbrev pub pdf_bytes : List ℕ → List ℕ → Page → List ℕ → List ℕ → List ℕ → List (List ℕ) → List ℕ
 pdf_bytes version title page pens rows ends streams =
-    document_text (objects version title page pens rows ends streams)
+    document_text (unit_of page) (objects version title page pens rows ends streams)
 
 -- zlib streams (RFC 1950) of the contents of these sheets, which have these areas and these labels
 abbrev pub AreStreams : Page → PenSet → List (List Segment) → List (List Area) → List (List LabelShape) → List (List ℕ) → Type 0

@@ -4,7 +4,7 @@ ghost use Rattle.areas.specs.Views.{areas_in};
 ghost use Rattle.labels.specs.Sheets.{all_counted};
 ghost use Rattle.pieces.specs.Texts.{IsNew, IsSound, Puts, count_of};
 ghost use Rattle.plot_page.specs.declared.stroke.TheConstants.{MOST_STROKES};
-ghost use Rattle.pdf.specs.Documents.{end_text};
+ghost use Rattle.pdf.specs.Documents.{end_text, header_text, version_text};
 ghost use Rattle.pdf.specs.Texts.{letter_count};
 ghost use Rattle.pdf.specs.Writings.{WritesPdf};
 ghost use Rattle.pdf.specs.declared.counts.TheConstants.{MOST_LETTERS};
@@ -16,6 +16,7 @@ use crate::pages::put_pages;
 use crate::pens::{PENS, list_pens};
 use crate::rows::{ROWS, list_rows};
 use crate::table::{put_table, put_trailer};
+use crate::units::{PageUnit, unit_of};
 use deflate::TextEncoder;
 use devices::{Sink, WriteFault};
 use pieces::Text;
@@ -29,7 +30,8 @@ pub fn room_for(pages: usize) -> usize
     773 + 3 * pages
 }
 
-/// Writes the shapes of the selected pens as a PDF 1.5 document, of which each sheet is a page. The first sheet has
+/// Writes the shapes of the selected pens as a PDF document, of version 1.5, or 1.6 if a side of the page is over 203,200
+/// plotter units, 14,400 points. Each sheet is a page. The first sheet has
 /// the strokes up to the first end, which says how many they are, each other one those up to its end. All pages have the
 /// size of the page given. The producer is `plotraster` in this version, which has no parenthesis and no backslash. An
 /// empty title is none.
@@ -93,7 +95,7 @@ fn put_document<K: Sink>(
     let mut list = [0; ROWS];
     let row_count = list_rows(view, &mut list);
     let rows = &list[..row_count];
-    text.put(b"%PDF-1.5\n%\xE2\xE3\xCF\xD3\n");
+    put_header(text, unit_of(view.page));
     put_front(text, offsets, version, title);
     put_shared_objects(text, offsets, view.page, pens, rows, ends);
     put_layers(text, offsets, 4, pens);
@@ -104,6 +106,25 @@ fn put_document<K: Sink>(
     let objects = fonts as usize + 3 * ends.len();
     put_end(text, &offsets[..objects]);
     text.finish()
+}
+
+// Puts the version, and a comment with bytes that no text has.
+fn put_header<K: Sink>(text: &mut Text<'_, K>, unit: PageUnit)
+    requires sound { IsSound K.state text.old }
+    ensures puts { Puts K.state text.old text.new (header_text unit) }
+{
+    text.put(version_of(unit));
+    text.put(b"%\xE2\xE3\xCF\xD3\n");
+}
+
+// The version: units of more than a point are of PDF 1.6.
+fn version_of(unit: PageUnit) -> &'static [u8]
+    ensures { result.now ≡ version_text unit }
+{
+    match unit {
+        PageUnit::One => b"%PDF-1.5\n",
+        PageUnit::Two | PageUnit::Three => b"%PDF-1.6\n",
+    }
 }
 
 // Puts the table of objects that begin there, and what comes after it.

@@ -5,6 +5,7 @@ ghost use Rattle.areas.specs.Views.{areas_in};
 ghost use Rattle.pdf.specs.Contents.{content_operators, content_text};
 ghost use Rattle.pdf.specs.ContentReader.{read_content};
 ghost use Rattle.pdf.specs.Documents.{document_text, header_text};
+ghost use Rattle.pdf.specs.declared.units.PageUnit.{PageUnit};
 ghost use Rattle.pdf.specs.Laws.{BeginsAt};
 ghost use Rattle.pdf.specs.Objects.{object_text, offsets_of};
 ghost use Rattle.pdf.specs.Ranges.{AreInRange};
@@ -73,10 +74,11 @@ pub fn content_reads_back(
 
 /// In each document an object begins where the table says, and the table has an offset for each object.
 pub fn table_is_right()
-    ensures begins { (all : List (List ℕ)) (k : ℕ) → k < length all
-        → BeginsAt (document_text all) (get_or (offsets_of (length header_text) 0 all) k 0)
+    ensures begins { (unit : PageUnit) (all : List (List ℕ)) (k : ℕ) → k < length all
+        → BeginsAt (document_text unit all) (get_or (offsets_of (length (header_text unit)) 0 all) k 0)
         (object_text k (get_or all k [])) }
-    ensures whole { (all : List (List ℕ)) → length (offsets_of (length header_text) 0 all) ≡ length all }
+    ensures whole { (unit : PageUnit) (all : List (List ℕ))
+        → length (offsets_of (length (header_text unit)) 0 all) ≡ length all }
 {}
 
 // The places of lines are where strokes may end.

@@ -1,4 +1,4 @@
-//! PDF 1.5: the strokes and areas of sheets as a document of pages, with a layer for each pen, and the texts of labels.
+//! PDF: the strokes and areas of sheets as a document of pages, with a layer for each pen, and the texts of labels.
 #![tactic(auto)]
 
 mod content;

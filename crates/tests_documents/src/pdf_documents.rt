@@ -1,12 +1,14 @@
 //! Documents, byte by byte.
-use crate::pdf_strokes::{BLACK, Look, WHOLE, write, write_titled};
+use crate::pdf_strokes::{BLACK, Look, WHOLE, write, write_titled, write_view};
+use areas::Areas;
 use crc32::crc_of;
 use deflate::TextEncoder;
 use devices::{OverWrite, Sink};
-use plot_page::Stroke;
+use plot_page::{Page, PenSet, Stroke};
 use std::alloc::Global;
 use std::process::Abort;
 use std::test::Fail;
+use stroke_runs::SheetView;
 
 // One page without strokes. A writer of our own in Python, and zlib's reading of the stream, say what these bytes are.
 const EMPTY: &[u8] = b"\
@@ -145,4 +147,52 @@ fn titles(rt: HostRuntime) -> Result<(), Fail> {
     let document = sink.into_inner();
     assert_eq!(&rt; (document.len(), crc_of(&document)), (808, 0xc142_0203));
     Ok(())
+}
+
+// The document of a page without strokes that is so wide, in plotter units.
+fn wide_page(rt: &impl Abort, alloc: Global, width: u32) -> Result<Vec<u8>, Fail> {
+    let page = Page::roll(width, 64, 0, 0).ok_or("no page")?;
+    let view = SheetView {
+        page: &page,
+        pens: &PenSet::none(),
+        strokes: &[],
+        areas: Areas::none(),
+        labels: &[],
+        before: 0,
+    };
+    let mut sink = OverWrite::new(Vec::new(alloc));
+    let mut encoder = TextEncoder::new(alloc)?;
+    write_view(alloc, &mut encoder, "", &view, &[0], &mut sink)?;
+    assert_eq!(rt; sink.failures(), 0);
+    Ok(sink.into_inner())
+}
+
+// Fails unless a document of a page that is so wide has this version, and this text between the page's parent and its content.
+fn has_unit(
+    rt: &impl Abort,
+    alloc: Global,
+    width: u32,
+    version: &[u8],
+    page: &[u8],
+) -> Result<(), Fail> {
+    let document = wide_page(rt, alloc, width)?;
+    let document = document.as_slice();
+    let mut is_found = false;
+    for at in 0..document.len() {
+        is_found = is_found || document[at..].starts_with(page);
+    }
+    assert!(rt; document.starts_with(version), "{width}");
+    assert!(rt; is_found, "{width}");
+    Ok(())
+}
+
+// A page of 14,400 points, and longer ones, which have larger units: their documents are of a later version.
+#[test]
+fn units_of_pages(rt: HostRuntime) -> Result<(), Fail> {
+    let points = b"/Parent 3 0 R/Contents";
+    let twos = b"/Parent 3 0 R/UserUnit 2/Contents";
+    let threes = b"/Parent 3 0 R/UserUnit 3/Contents";
+    has_unit(&rt, rt.alloc(), 203_200, b"%PDF-1.5\n", points)?;
+    has_unit(&rt, rt.alloc(), 203_201, b"%PDF-1.6\n", twos)?;
+    has_unit(&rt, rt.alloc(), 524_288, b"%PDF-1.6\n", threes)
 }

@@ -1,10 +1,10 @@
-use Rattle.std.proofs.Common.{◌≡◌, ◌+◌, ◌*◌, ◌∙◌, take, length, refl, arith}
+use Rattle.std.proofs.Common.{◌≡◌, ◌+◌, ◌*◌, ◌∙◌, ap, take, length, refl, arith}
 use Rattle.std.proofs.lemmas.List.{length-take, length-take-le}
 use Rattle.areas.specs.Views.{areas_in}
 use Rattle.labels.specs.Sheets.{all_counted}
 use Rattle.pieces.specs.Texts.{count_of}
-use Rattle.pieces.proofs.Texts.{written}
-use Rattle.pdf.specs.Documents.{font_count}
+use Rattle.pieces.proofs.Texts.{puts_as, written}
+use Rattle.pdf.specs.Documents.{font_count, header_text}
 use Rattle.pdf.proofs.AddedObjects.{added_more}
 use Rattle.pdf.proofs.AddedPages.{pdf_put}
 use Rattle.pdf.proofs.FontLists.{fonts_most}
@@ -37,7 +37,7 @@ returns g c =
     let new : count_of c.args.text.now ≡ 0 = omega (arith, c.requires.new.0, c.requires.new.1) in
     let front = added_more c.put_front.ensures.adds c.put_shared_objects.ensures.adds refl in
     let puts = pdf_put (4 + count) (4 + count + fonts) (4 + count + fonts + 3 * length ends) c.args.version.now c.args.title.now view.page.now view.pens.now view.strokes.now (areas_in view.areas) ends
-    (all_counted view.before view.labels.now) pens rows pages.streams new c.put.ensures.puts front c.put_layers.ensures.adds c.put_fonts.ensures.adds pages.adds c.put_end.ensures.puts
+    (all_counted view.before view.labels.now) pens rows pages.streams new (puts_as c.put_header.ensures.puts (ap header_text c.unit_of.ensures)) front c.put_layers.ensures.adds c.put_fonts.ensures.adds pages.adds c.put_end.ensures.puts
     pages.are layers begin refl c.list_pens-count.ensures.list c.list_rows-row_count.ensures.list in
     record {
       same = c.finish.ensures.same ∙ puts.same;

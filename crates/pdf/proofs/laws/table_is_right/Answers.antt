@@ -7,4 +7,4 @@ pub returns-clause-begins : goal.returns-clause-begins
 returns-clause-begins c = begins
 
 pub returns-clause-whole : goal.returns-clause-whole
-returns-clause-whole c = offsets_size (length header_text) 0
+returns-clause-whole c = λ unit. offsets_size (length (header_text unit)) 0
