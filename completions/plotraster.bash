@@ -15,9 +15,10 @@ _plotraster() {
             *) options="$options --dots --pens --progress" ;;
         esac
         case "$command" in
-            draw) options="$options --size --smooth --form --quiet" ;;
+            draw) options="$options --size --smooth --labels --form --quiet" ;;
             png) options="$options --smooth" ;;
-            pdf | svg | dxf) ;;
+            dxf) options="$options --labels" ;;
+            pdf | svg) ;;
             ppm) options="$options --smooth --band --from --rows" ;;
             *) options="$options --band --from --rows" ;;
         esac
@@ -32,6 +33,10 @@ _plotraster() {
                 ;;
             --pens)
                 COMPREPLY=($(compgen -W "all" -- "$word"))
+                return
+                ;;
+            --labels)
+                COMPREPLY=($(compgen -W "text strokes" -- "$word"))
                 return
                 ;;
             --form)

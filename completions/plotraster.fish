@@ -59,6 +59,7 @@ __plotraster_option "$pixels" -l progress \
     -d 'Show on standard error, if it is a terminal, how many rows of a long picture are written'
 __plotraster_option draw -x -l size -d 'Most pixels of the picture\'s longer side'
 __plotraster_option "draw png ppm" -x -l smooth -d 'Smoothing, 1 to 8'
+__plotraster_option "draw dxf" -x -l labels -a 'text strokes' -d 'How a DXF has labels in the profile full'
 __plotraster_option draw -x -l form -a 'png pdf svg dxf ppm pbm pcl marks' -d 'Form of the picture'
 __plotraster_option draw -l quiet -d 'Show no progress, and do not say that little or nothing is drawn'
 __plotraster_option "$rows" -x -l band -d 'Most rows of pixels painted at a time'

@@ -70,6 +70,9 @@ _plotraster() {
         draw|png|ppm) options+=('--smooth=[Smoothing, 1 to 8]:TIMES: ') ;;
     esac
     case $command in
+        draw|dxf) options+=('--labels=[How a DXF has labels in the profile full]:NAME:(text strokes)') ;;
+    esac
+    case $command in
         marks|pbm|ppm|pcl)
             options+=(
                 '--band=[Most rows of pixels painted at a time]:ROWS: '

@@ -11,7 +11,7 @@ RASTERS = ("draw", "png", *ROWS)
 PICTURES = (*RASTERS, *LINES)
 # The commands of each group.
 GROUPS = {"All": (*PICTURES, "report"), "Pictures": PICTURES, "Rasters": RASTERS, "Smoothed": ("draw", "png", "ppm"),
-          "Rows": ROWS, "Draw": ("draw",), "Pcl": ("pcl",)}
+          "Texts": ("draw", "dxf"), "Rows": ROWS, "Draw": ("draw",), "Pcl": ("pcl",)}
 
 
 class Option(NamedTuple):

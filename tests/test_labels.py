@@ -248,6 +248,18 @@ def test_draw(program, tmp_path):
     assert by_poppler(read_bytes(tmp_path / "plan.pdf")) == by_mupdf(read_bytes(tmp_path / "plan.pdf"), tmp_path) == ["Pump"]
 
 
+def test_labels_as_strokes(program):
+    """A DXF has labels as lines, if they are asked for so, and is that of the plain plotter."""
+    plot, words = SHEETS + LINES, ["--profile=full", *SMALL, "--sheet=0"]
+    as_texts, as_strokes = (read_dxf(drawn(program, ["dxf", *words, *more], plot)) for more in ([], ["--labels=strokes"]))
+    assert [as_texts.texts(sheet) for sheet in (1, 2, 3, 4)] == [["first"], ["second", " 2"], [], ["fourth"]]
+    assert drawn(program, ["dxf", *words, "--labels", "text"], plot) == drawn(program, ["dxf", *words], plot)
+    assert as_strokes == as_strokes.without_texts() and as_strokes.layers == as_texts.layers
+    assert len(as_strokes.entities) > 4 * len(as_texts.without_texts().entities)
+    case = Case("dxf", {"profile": "full", "width": "4000", "height": "3000", "sheet": "0", "labels": "strokes"}, plot)
+    assert not differs(program, case), difference("labels as strokes", program, case)
+
+
 def test_core_has_none(program):
     for command in VECTORS:
         data = drawn(program, [command, *SMALL], b"PU500,500;LBPump\x03")

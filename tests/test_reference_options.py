@@ -128,6 +128,10 @@ def test_order_of_mistakes(options, text):
 
 @pytest.mark.parametrize("options, text", [
     ({"form": "pbm", "smooth": "2", "sheet": "x"}, messages.text("smooth-without-shades")),
+    ({"form": "svg", "labels": "x", "widths": "x"}, messages.text("widths", "x")), ({"labels": "x"}, messages.text("labels")),
+    ({"form": "pdf", "labels": "text", "profile": "core"}, messages.text("labels-without-texts")),
+    ({"form": "dxf", "labels": "text", "profile": "core", "dots": "20"}, messages.text("labels-in-core")),
+    ({"form": "dxf", "labels": "strokes", "profile": "x", "dots": "20"}, messages.text("no-pixels")),
     ({"profile": "x", "sheet": "x"}, "bad sheet"), ({"profile": "x", "sheet": "each"}, messages.text("profile")),
     ({"characters": "x", "sheet": "x"}, "bad sheet"), ({"characters": "x", "profile": "x"}, "bad characters: use roman-8, "),
     ({"profile": "core", "sheet": "each", "size": "20", "dots": "20"}, "--sheet needs --profile full"),

@@ -41,6 +41,9 @@ PAGE_AND_SIDE = messages.refused("page-and-sides")
 BAD_PROFILE = messages.refused("profile")
 NO_FORM = (2, b"plotraster: no such form of picture: ")
 NO_SHADES = messages.refused("smooth-without-shades")
+BAD_LABELS = messages.refused("labels")
+NO_TEXTS = messages.refused("labels-without-texts")
+LABELS_IN_CORE = messages.refused("labels-in-core")
 NO_PIXELS = messages.refused("no-pixels")
 NO_FIT = messages.refused("margin-without-fit")
 BAD_ROTATION = messages.refused("rotation")
@@ -376,6 +379,28 @@ def characters():
             yield [command, "--characters", word, "line.plt"], BAD_CHARACTERS
 
 
+def labels():
+    """Labels of a DXF as texts or as strokes, and of what has no texts in place of strokes."""
+    for command in ["draw", *COMMANDS]:
+        takes = command in ("draw", "dxf")
+        for name in ["text", "strokes"]:
+            yield [command, "--profile=full", f"--labels={name}", "line.plt"], (
+                DONE if command == "dxf" else NO_TEXTS if takes else USAGE)
+        for word in ["", " ", "Text", "TEXT", "texts", "stroke", "text ", "strokes,text", "none", "\u00e9", "a" * LONG]:
+            yield [command, f"--labels={word}", "--profile=full", "line.plt"], BAD_LABELS if takes else USAGE
+    for name in ["text", "strokes"]:
+        yield ["draw", "--labels", name, "line.plt", "-o", "labels.dxf"], DONE
+        yield ["draw", "line.plt", "--form", "DXF", f"--labels={name}", "--sheet=0"], DONE
+        yield ["dxf", "--labels", name, "line.plt"], LABELS_IN_CORE
+        yield ["draw", "--labels", name, "line.plt", "--form=dxf", "--profile=core"], LABELS_IN_CORE
+        for form in ["png", "pdf", "svg", *FORMS]:
+            yield ["draw", f"--labels={name}", "line.plt", f"--form={form}"], NO_TEXTS
+            yield ["draw", f"--labels={name}", "line.plt", "-o", f"labels.{form}", "--profile=core"], NO_TEXTS
+        yield ["dxf", "--profile=full", "--labels", name, f"--labels={name}"], USAGE
+    yield ["dxf", "--profile=full", "--labels"], USAGE
+    yield ["dxf", "--profile=full", "--label=text"], USAGE
+
+
 def pens_by_option():
     """Lists of colours and of widths, and what is no assignment in them."""
     for command in ["draw", *COMMANDS]:
@@ -503,6 +528,14 @@ def orders_of_refusal():
     yield ["svg", "--profile=full", "--sheet=each", "--margin=1"], EACH_WITHOUT_A_FOLDER
     yield ["draw", "--form=svg", "--dots=100", "--size=100", "--sheet=each"], NO_PIXELS
     yield ["draw", "--form=pdf", "--widths=1=fat", "--smooth=2"], messages.refused("widths", "1=fat")
+    yield ["draw", "--form=pdf", "--labels=none", "--widths=1=fat"], messages.refused("widths", "1=fat")
+    yield ["draw", "--form=pdf", "--labels=none", "--profile=core"], BAD_LABELS
+    yield ["draw", "--form=pdf", "--labels=text", "--profile=core"], NO_TEXTS
+    yield ["draw", "--form=pbm", "--labels=text", "--smooth=2"], NO_TEXTS
+    yield ["draw", "--form=dxf", "--labels=text", "--profile=core", "--dots=100"], LABELS_IN_CORE
+    yield ["draw", "--form=dxf", "--labels=text", "--size=100", "--page=none"], NO_PIXELS
+    yield ["dxf", "--labels=strokes", "--page=none"], LABELS_IN_CORE
+    yield ["dxf", "--labels=strokes", "--profile=none", "missing.plt"], BAD_PROFILE
     yield ["report", "--sheet=each", "--profile=none"], BAD_PROFILE
     yield ["draw", "--sheet=each", "--size=100", "--dots=10", "line.plt"], EACH_WITHOUT_A_FOLDER
     yield ["draw", "--size=100", "--dots=10", "line.plt", "far.plt"], SIZE_AND_DOTS
@@ -562,7 +595,8 @@ def bytes_that_are_no_text():
 GENERATORS = [
     plain, commands, numbers_in_range, numbers_out_of_range, no_numbers, values_missing, options_twice, unknown_options,
     options_of_pictures, smoothing, lists_of_pens, fitted_pages, turned_pages, drawings, pages, profiles, sheets, characters,
-    pens_by_option, sizes, resolutions_of_pcl, files, after_two_hyphens, calls_for_help, orders_of_refusal, bytes_that_are_no_text,
+    labels, pens_by_option, sizes, resolutions_of_pcl, files, after_two_hyphens, calls_for_help, orders_of_refusal,
+    bytes_that_are_no_text,
 ]
 
 

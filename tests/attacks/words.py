@@ -2,7 +2,7 @@
 
 from reference import messages
 from reference.command_line import (
-    CHARACTERS, DOTS_OF_PCL, MOST_DOTS, PICTURES, ROTATIONS, VECTORS, WITH_SHADES, Mistake, ranges_of, request_of)
+    CHARACTERS, DOTS_OF_PCL, LABELS, MOST_DOTS, PICTURES, ROTATIONS, VECTORS, WITH_SHADES, Mistake, ranges_of, request_of)
 from reference.random_options import (
     COLOURS, PENS, WIDTHS, WRONG_CHARACTERS, WRONG_COLOURS, WRONG_PENS, WRONG_SIZES, WRONG_WIDTHS)
 
@@ -17,7 +17,7 @@ LONG = 120000
 WRONG_NUMBERS = ("", " ", "x", "+", "-1", "1e2", "0x64", "\u0661\u0660", "1 0", "99999999999999999999", "9" * 4000)
 WRONG_TEXTS = {
     "pens": (*WRONG_PENS, "1" * LONG), "characters": WRONG_CHARACTERS, "profile": ("", "Core", "fuller"),
-    "form": ("", "gif", "P" * LONG),
+    "form": ("", "gif", "P" * LONG), "labels": ("", "Text", "stroke", "text" * (LONG // 4)),
     "sheet": ("", "-1", "4194305", "all", "1-2", str(2**64 + 1)), "page": ("", "A4", "a6", "a4-", "-portrait" * (LONG // 9)),
     "rotate": ("", "1", "-90", "+90", "090", "360", "90 ", "all", "9" * LONG),
     "colours": WRONG_COLOURS, "widths": WRONG_WIDTHS, "size": WRONG_SIZES,
@@ -46,6 +46,7 @@ def right_options(command, dice):
     if profile == "full":
         options.update({"sheet": dice.choice("00112")} if dice.random() < 0.8 else {})
         options.update({"characters": dice.choice(CHARACTERS)} if dice.random() < 0.2 else {})
+        options.update({"labels": dice.choice(LABELS)} if form == "dxf" and dice.random() < 0.5 else {})
     if form != "report" and form not in VECTORS:
         options.update(pixel_options(command, form, is_small, dice))
     options.update(look_options(command, form, dice))

@@ -33,6 +33,8 @@ DRAW_OPTIONS = {"dots": (10, 1200, 150), "size": (16, 20_000, None), "smooth": (
 MOST_SHEETS = 4_194_304
 EACH = "each"
 CHARACTERS = ("roman-8", "latin-1", "windows-1252", "pc-8", "ascii", "utf-8")
+# How a DXF has labels.
+AS_TEXT, AS_STROKES = LABELS = ("text", "strokes")
 NO_SUCH_FORM = (
     "no such form of picture: use png, pdf, svg, dxf, ppm, pbm, pcl or marks, after --form or as the extension of the output file"
 )
@@ -51,6 +53,7 @@ class Request(NamedTuple):
     sheet: object = None  # in core None, else a number, 0 for all, or EACH
     is_sheet_named: bool = False
     characters: str = None  # how the bytes of labels are read; None as the plot chooses
+    labels: str = AS_TEXT  # how a DXF has them
     pens: object = frozenset(range(1, 256))
     carousel: Carousel = carousel.EMPTY
     dots: int = None
@@ -83,6 +86,7 @@ def request_of(command, options):
     numbers = numbers_of(command, options)
     texts = (*TEXTS, "output") if command == "report" else (*TEXTS, "output", "pens")
     texts = (*texts, "form", "quiet") if command == "draw" else texts
+    texts = (*texts, "labels") if command in ("draw", "dxf") else texts
     if any(name not in (*numbers, *texts) for name in options) or {"colours", "colors"} <= set(options):
         raise Mistake
     form = form_of(command, options)
@@ -93,6 +97,7 @@ def request_of(command, options):
     request = Request(form, Page(*(numbers[name] for name in PAGE_OPTIONS)), pens=pens, carousel=assigned)
     request = request._replace(folder=options.get("output"), first=numbers.get("from", 0), most=numbers.get("rows"))
     request = request._replace(is_draw=command == "draw", is_quiet="quiet" in options)
+    request = with_labels(request, options)
     if form in VECTORS and {"dots", "size", "smooth"} & set(options):
         raise Mistake(messages.text("no-pixels"))
     if form != "report" and form not in VECTORS:
@@ -138,6 +143,22 @@ def carousel_of(options):
     return Carousel(*found)
 
 
+def profile_of(request, options):
+    return options.get("profile", "full" if request.is_draw else "core")
+
+
+def with_labels(request, options):
+    """A request with how a DXF has labels."""
+    labels = options.get("labels", AS_TEXT)
+    if labels not in LABELS:
+        raise Mistake(messages.text("labels"))
+    if "labels" in options and request.form != "dxf":
+        raise Mistake(messages.text("labels-without-texts"))
+    if "labels" in options and profile_of(request, options) == "core":
+        raise Mistake(messages.text("labels-in-core"))
+    return request._replace(labels=labels)
+
+
 def with_resolution(request, options, numbers):
     """A request with its dots or the most pixels of a side, and how much finer it is painted."""
     smooth, dots = numbers.get("smooth", 1), numbers["dots"]
@@ -168,7 +189,7 @@ def with_page(request, options):
 
 def with_sheet(request, options):
     """A request with its sheet and its characters."""
-    profile, text = options.get("profile", "full" if request.is_draw else "core"), options.get("sheet", "1")
+    profile, text = profile_of(request, options), options.get("sheet", "1")
     if text != EACH and (not re.fullmatch(r"\+?[0-9]+", text) or int(text) > MOST_SHEETS):
         raise Mistake(f"bad sheet: use a number from 0 to {MOST_SHEETS}, or {EACH}")
     characters = options.get("characters")

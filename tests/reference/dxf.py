@@ -74,18 +74,20 @@ class Dxf(NamedTuple):
 
 
 def drawing_of(page, sheets, labels, are_numbered):
-    """The document of sheets of shapes on a page, and of the lines of all labels."""
+    """The document of sheets of shapes on a page, and of the lines of all labels, or of None, if labels are drawn as strokes."""
     layers, entities = [], []
     for number, shapes in enumerate(sheets, 1):
         shown = [shape for shape in shapes if holds_a_place(shape.window)]
-        parts = [
-            (list(several), [] if label is None else labels[label])
-            for (_, label), several in groupby(shown, lambda it: (it.labels, it.label))
-        ]
         own = layers_of(number if are_numbered else None, shown)
         layers += own.values()
-        entities += entities_of(parts, page, own)
+        entities += drawn(shown, page, own) if labels is None else entities_of(parts_of(shown, labels), page, own)
     return Dxf(page.width, page.height, layers, entities)
+
+
+def parts_of(shapes, labels):
+    """The shapes between labels, and those of a label with its lines of text."""
+    several = groupby(shapes, lambda it: (it.labels, it.label))
+    return [(list(own), [] if label is None else labels[label]) for (_, label), own in several]
 
 
 def layers_of(sheet, shapes):

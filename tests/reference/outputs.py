@@ -8,7 +8,7 @@ from typing import NamedTuple
 
 from . import cutting, full_cutting, full_plotter, messages, plotter, raster
 from .carousel import EMPTY
-from .command_line import DOTS_OF_PCL, EACH, MOST_DOTS, PAGE_OPTIONS, VECTORS, Mistake, request_of
+from .command_line import AS_TEXT, DOTS_OF_PCL, EACH, MOST_DOTS, PAGE_OPTIONS, VECTORS, Mistake, request_of
 from .dxf import drawing_of
 from .dxf_groups import bytes_of
 from .fitting import BLANK, LONGEST, LONGEST_OF_CORE, TOO_LARGE, UNIT, fitted, is_off
@@ -226,7 +226,8 @@ def document_of(request, shown, shapes):
     are_numbered = is_pdf or is_whole and shown.drawing.has_ends
     page, title = shown.page, f"{PLOT}.plt" if is_pdf and request.folder else None
     if request.form == "dxf":
-        return bytes_of(drawing_of(page, sheets, shown.drawing.labels, are_numbered))
+        labels = shown.drawing.labels if request.labels == AS_TEXT else None
+        return bytes_of(drawing_of(page, sheets, labels, are_numbered))
     read = texts_of if is_pdf else groups_of
     labels = [it for number, own in enumerate(sheets, 1) for it in read(number, spans_of(own), shown.drawing.labels)]
     document = Document(page.width, page.height, [shapes_of(it, page) for it in sheets], are_numbered, title, tuple(labels))

@@ -5,7 +5,7 @@ The plot of a seed is that of the same seed in another form, in full often with 
 
 import random
 
-from .command_line import EACH, PAGE_OPTIONS, VECTORS
+from .command_line import AS_STROKES, EACH, LABELS, PAGE_OPTIONS, VECTORS
 from .random_fitted_plots import MARGINS, OF_REPORTS, base_case, fitted_case, number
 from .random_labels import random_label
 from .random_options import page_options, with_characters, with_ends_of_sheets, with_pens, with_pieces
@@ -35,7 +35,7 @@ def random_vector_case(seed):
     case = with_pens(case, chance) if chance.random() < 0.3 else case
     if case.form in VECTORS and chance.random() < 0.3:
         case = fitted_case(case, chance)
-    return with_characters(case, chance)
+    return with_labels_written(with_characters(case, chance), chance)
 
 
 def drawn_case(case, chance):
@@ -65,6 +65,15 @@ def with_labels(case, chance):
         plot = with_pieces(case.plot, chance, lambda: random_label(chance))
     options = {**case.options, "characters": "utf-8"} if chance.random() < 0.4 else case.options
     return case._replace(options=options, plot=plot)
+
+
+def with_labels_written(case, chance):
+    """The case, if it is a DXF of the profile full mostly with a choice of how it has labels, and else rarely, which is wrong."""
+    form, profile = case.options.get("form", case.form).lower(), case.options.get("profile")
+    if chance.random() >= (0.6 if form == "dxf" and profile != "core" else 0.01):
+        return case
+    labels = chance.choice((*LABELS, AS_STROKES)) if chance.random() < 0.97 else "Text"
+    return case._replace(options={**case.options, "labels": labels})
 
 
 def with_sheets(case, chance):

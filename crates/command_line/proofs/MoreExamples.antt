@@ -1,4 +1,4 @@
--- What the command asks for of pens, sheets, characters and pixels, at some words.
+-- What the command asks for of pens, sheets, characters, labels and pixels, at some words.
 use Rattle.std.proofs.Common.{◌∷◌, [], Option, Some, None, ℕ, false, codes, refl}
 use Rattle.std.specs.Prelude.{option_and_then}
 use Rattle.clap.specs.Words.{Text, subcommand_of}
@@ -13,12 +13,15 @@ use Rattle.pen_list.specs.Colours.{colour_written}
 use Rattle.command_line.specs.declared.fault.LineFault.TheVariants as fault
 use Rattle.command_line.specs.Faults.{BadColours, BadWidths, Plain}
 use Rattle.command_line.specs.Characters.{encoding_named}
-use Rattle.command_line.specs.Lines.{colours_text, encoding_of, sheet_in, turn_in}
+use Rattle.command_line.specs.LabelChoices.{labels_named}
+use Rattle.command_line.specs.Lines.{colours_text, encoding_of, labels_in, sheet_in, turn_in}
 use Rattle.command_line.specs.Options.{plot_app}
 use Rattle.command_line.specs.Sheets.{sheet_named}
 use Rattle.command_line.specs.Turns.{turn_named}
 use Rattle.directions.specs.declared.turn.Turn.{Turn}
 use Rattle.directions.specs.declared.turn.Turn.TheVariants as turn
+use Rattle.picture_job.specs.declared.vector_job.LabelChoice.{LabelChoice}
+use Rattle.picture_job.specs.declared.vector_job.LabelChoice.TheVariants as label
 use Rattle.command_line.proofs.OnWords.{Table, words_of, choice_on, faults_on, value_fault_on}
 
 -- the sheet that a text asks for
@@ -128,10 +131,52 @@ encodings : Table encoding_on (
 unfolding clap_on_literals
 encodings = refl
 
+-- how labels are written, by the name
+labels_by_name : Table labels_named (
+    (codes "text", Some label.Text)  -- as texts
+    ∷ (codes "strokes", Some label.Strokes)  -- as strokes
+    ∷ (codes "Text", None)  -- no capital text
+    ∷ (codes "stroke", None)  -- one of them is none
+    ∷ []
+    )
+labels_by_name = refl
+
+-- how a command line has labels written
+abbrev labels_on : Text → Option LabelChoice
+labels_on line = option_and_then (λ p. labels_in p.1) (subcommand_of plot_app (words_of line))
+
+-- how labels are written
+labels : Table labels_on (
+    (codes "dxf --profile=full", Some label.Text)  -- labels left out
+    ∷ (codes "dxf --labels strokes --profile=full", Some label.Strokes)  -- labels given
+    ∷ (codes "draw --form=dxf --labels=text", Some label.Text)  -- in draw, too
+    ∷ (codes "svg", Some label.Text)  -- in another document
+    ∷ []
+    )
+unfolding clap_on_literals
+labels = refl
+
+-- what is wrong with how labels are to be written
+faults_of_labels : Table value_fault_on (
+    (codes "draw --output=plan.dxf --labels=strokes", None)  -- a file's name says the form
+    ∷ (codes "dxf --labels=text", Some (Plain fault.Labels))  -- labels in core
+    ∷ (codes "dxf --labels=text --profile=none", Some (Plain fault.Profile))  -- labels in no profile
+    ∷ (codes "draw --labels=text --profile=core", Some (Plain fault.NoTexts))  -- form before profile
+    ∷ (codes "draw --form=svg --labels=Text", Some (Plain fault.BadLabels))  -- name before form
+    ∷ (codes "draw --form=pdf --labels=strokes --dots=150", Some (Plain fault.NoTexts))  -- labels before pixels
+    ∷ (codes "dxf --labels=x --widths=3=fat", Some (BadWidths (codes "3=fat")))  -- widths before labels
+    ∷ (codes "dxf --labels=strokes --profile=core --page=none", Some (Plain fault.Labels))  -- labels before the page
+    ∷ []
+    )
+unfolding clap_on_literals
+faults_of_labels = refl
+
 -- the kinds of fault
 faults_of_words : Table faults_on (
     (codes "pbm --characters=ascii --characters=ascii", kind.ArgumentConflict ∷ [])  -- characters twice
     ∷ (codes "pbm --colours=1=red --colors=1=red", kind.ArgumentConflict ∷ [])  -- colours in both spellings
+    ∷ (codes "dxf --labels=text", [])  -- labels of a DXF
+    ∷ (codes "svg --labels=text", kind.UnknownArgument ∷ [])  -- labels of another document
     ∷ []
     )
 unfolding clap_on_literals

@@ -19,8 +19,9 @@ use Rattle.command_line.specs.Characters.{encoding_named}
 use Rattle.command_line.specs.Defaults.{defaults_of}
 use Rattle.command_line.specs.Faults.{Refusal, BadColours, BadWidths, first_of_these, refusal_of}
 use Rattle.command_line.specs.Forms.{extension_of, form_named}
+use Rattle.command_line.specs.LabelChoices.{labels_named}
 pub use Rattle.command_line.specs.Options.{is_picture, is_pcl}
-use Rattle.command_line.specs.Options.{is_smoothed, subcommands, plot_app}
+use Rattle.command_line.specs.Options.{has_texts, is_smoothed, subcommands, plot_app}
 use Rattle.command_line.specs.Papers.{a4, names_plot, size_named}
 use Rattle.command_line.specs.Sheets.{is_each, sheet_named}
 use Rattle.command_line.specs.Turns.{turn_named}
@@ -34,6 +35,8 @@ use Rattle.picture_out.specs.declared.form.Form.{Form}
 use Rattle.picture_job.specs.declared.job.Job.{Job}
 use Rattle.picture_job.specs.declared.picture.Picture.TheVariants.{Png, Rows, Vector}
 use Rattle.picture_job.specs.declared.png_job.PngJob.{PngJob}
+use Rattle.picture_job.specs.declared.vector_job.LabelChoice.{LabelChoice}
+use Rattle.picture_job.specs.declared.vector_job.LabelChoice.TheVariants as label
 use Rattle.picture_job.specs.declared.vector_job.VectorFormat.{VectorFormat}
 use Rattle.picture_job.specs.declared.vector_job.VectorFormat.TheVariants.{Pdf}
 use Rattle.picture_job.specs.declared.vector_job.VectorJob.{VectorJob}
@@ -45,7 +48,7 @@ use Rattle.command_line.specs.declared.destination.Destination.{Destination}
 use Rattle.command_line.specs.declared.destination.Destination.TheVariants.{File, Folder}
 use Rattle.command_line.specs.declared.fault.LineFault.{LineFault}
 use Rattle.command_line.specs.declared.fault.LineFault.TheVariants.{Pens, Shades, Smooth, Paper, Size, Profile, Sheet}
-use Rattle.command_line.specs.declared.fault.LineFault.TheVariants.{BadCharacters, BadSheet, BadTurn, Characters, LongPage, Form as NoForm, Margin, NoFolder, NoPicture, NoPixels, Pixels, PrinterPixels, Several}
+use Rattle.command_line.specs.declared.fault.LineFault.TheVariants.{BadCharacters, BadLabels, BadSheet, BadTurn, Characters, Labels, LongPage, Form as NoForm, Margin, NoFolder, NoPicture, NoPixels, NoTexts, Pixels, PrinterPixels, Several}
 use Rattle.command_line.specs.declared.line.Line.{Line}
 use Rattle.command_line.specs.declared.line.Task.{Task}
 use Rattle.command_line.specs.declared.line.Task.TheVariants.{Picture, Report}
@@ -90,6 +93,14 @@ characters_text rows = first_of (codes "characters") rows
 -- nothing
 abbrev pub encoding_of : List Row → Option Encoding
 encoding_of rows = option_map_or encoding_named (characters_text rows) (Some ByPlot)
+
+-- the name of how labels are written, or None if none is given
+abbrev pub labels_text : List Row → Option Text
+labels_text rows = first_of (codes "labels") rows
+
+-- how labels are written: as the name says, or as texts if no name is given; None if the name means nothing
+abbrev pub labels_in : List Row → Option LabelChoice
+labels_in rows = option_map_or labels_named (labels_text rows) (Some label.Text)
 
 -- the text that says how the page is turned, or None if none is given
 abbrev pub turn_text : List Row → Option Text
@@ -254,10 +265,11 @@ pub record IsJobOf (kind : Kind) (rows : List Row) (job : Job) (choice : RowChoi
   pub first_row : unwrap_or (number_in rows (codes "from")) 0 ≡ job.first_row
   pub most_rows : number_in rows (codes "rows") ≡ choice.most_rows
 
--- the page and the pens of the job are those of the options, and nothing is said of pixels
+-- the page, the pens and the labels of the job are those of the options, and nothing is said of pixels
 pub record IsVectorJobOf (rows : List Row) (job : VectorJob) : Type 0 where
   pub page : IsPageOf rows job.page
   pub pens : ArePensOf rows job.pens
+  pub labels : labels_in rows ≡ Some job.labels
   pub plain : has_pixels rows ≡ false
 
 -- the task is a picture in this form, by these options
@@ -342,6 +354,23 @@ pixels_fault kind rows =
     if is_given rows (codes "dots") then Some Pixels else
     if is_for_printers kind rows then Some PrinterPixels else None
 
+-- the profile has this name
+abbrev pub has_profile : List Row → Text → Bool
+has_profile rows name = option_map_or (λ text. bytes_eq text name) (profile_text rows) false
+
+-- a picture is written in which labels may be texts
+abbrev pub writes_texts : Kind → List Row → Bool
+writes_texts kind rows = option_map_or has_texts (written kind rows) false
+
+-- what is wrong with how labels are to be written: first comes the name, then the form, then the profile, without whose
+-- labels there are no texts
+abbrev pub labels_fault : Kind → List Row → Option LineFault
+labels_fault kind rows =
+    if not (is_some (labels_in rows)) then Some BadLabels else
+    if not (is_given rows (codes "labels")) then None else
+    if not (writes_texts kind rows) then Some NoTexts else
+    if has_profile rows (codes "core") then Some Labels else None
+
 -- the line is what a subcommand does, by its options and its files
 pub record IsLineBy (kind : Kind) (rows : List Row) (line : Line) : Type 0 where
   pub task : IsTaskOf kind rows line.task
@@ -349,6 +378,7 @@ pub record IsLineBy (kind : Kind) (rows : List Row) (line : Line) : Type 0 where
   pub choice : IsChoiceOf kind rows line.choice
   pub turned : turn_in rows ≡ Some line.turn
   pub sized : pixels_fault kind rows ≡ None
+  pub labelled : labels_fault kind rows ≡ None
   pub carousel : IsCarouselOf rows line.carousel
   pub files : map (λ s. s.now) line.files.now ≡ files_in rows
   pub output : option_map (λ s. s.now) line.output ≡ output_text rows
@@ -414,10 +444,6 @@ has_bad_paper rows = option_map_or (λ name. not (is_some (size_named name))) (p
 abbrev pub page_fault : List Row → Option LineFault
 page_fault rows =
     if has_bad_paper rows then Some Paper else if has_paper_and_side rows then Some Size else None
-
--- the profile has this name
-abbrev pub has_profile : List Row → Text → Bool
-has_profile rows name = option_map_or (λ text. bytes_eq text name) (profile_text rows) false
 
 -- the name of the profile is neither core nor full
 abbrev pub has_bad_profile : List Row → Bool
@@ -502,6 +528,7 @@ abbrev pub values_fault : Kind → List Row → Option Refusal
 values_fault kind rows = first_of_these (
     option_map refusal_of (selection_fault kind rows)
     ∷ carousel_fault rows
+    ∷ option_map refusal_of (labels_fault kind rows)
     ∷ option_map refusal_of (task_fault kind rows)
     ∷ option_map refusal_of (reading_fault rows)
     ∷ option_map refusal_of (each_fault kind rows)

@@ -42,6 +42,11 @@ is_smoothed (Picture Ppm) = true
 is_smoothed Png = true
 is_smoothed _ = false
 
+-- what has labels as texts in place of their strokes
+abbrev pub has_texts : Output → Bool
+has_texts (Vector Dxf) = true
+has_texts _ = false
+
 -- a picture whose rows are independent
 abbrev pub has_rows : Output → Bool
 has_rows (Picture form) = true
@@ -65,6 +70,7 @@ has_output group.Draw output = false
 has_output group.Pictures output = is_picture output
 has_output group.Rasters output = is_raster output
 has_output group.Smoothed output = is_smoothed output
+has_output group.Texts output = has_texts output
 has_output group.Rows output = has_rows output
 has_output group.Pcl output = is_pcl output
 
@@ -125,6 +131,7 @@ options =
     ∷ option (codes "progress") group.Rasters Flag
     ∷ option (codes "size") group.Draw (Number 16 20000)
     ∷ option (codes "smooth") group.Smoothed (Number 1 8)
+    ∷ option (codes "labels") group.Texts Word
     ∷ option (codes "form") group.Draw Word
     ∷ option (codes "quiet") group.Draw Flag
     ∷ option_or (codes "64") (codes "band") group.Rows (Number 1 4096)

@@ -32,6 +32,15 @@ pub enum LineFault<'a> {
     /// The first item of the text after `--widths` that is bad.
     #[error("bad widths: {0}")]
     Widths(&'a str),
+    /// The word after `--labels` names no way to write them.
+    #[error("bad labels: use text or strokes")]
+    BadLabels,
+    /// `--labels` is given for a form without texts in place of strokes.
+    #[error("--labels needs the form dxf")]
+    NoTexts,
+    /// `--labels` is given with the profile core, which draws labels as strokes only.
+    #[error("--labels needs --profile full")]
+    Labels,
     /// `--smooth` is given for a form without shades.
     #[error("--smooth needs the form png or ppm")]
     Shades,

@@ -1,8 +1,9 @@
 //! Groups of subcommands, which have the same options.
 ghost use Rattle.std.specs.Prelude.{◌≡◌};
-ghost use Rattle.command_line.specs.Options.{has, has_draw, has_output, has_rows, is_pcl, is_picture, is_raster, is_smoothed};
+ghost use Rattle.command_line.specs.Options.{has, has_draw, has_output, has_rows, has_texts, is_pcl, is_picture, is_raster, is_smoothed};
 
 use crate::subcommands::{Kind, Output};
+use picture_job::VectorFormat;
 use picture_out::Form;
 
 /// A group of subcommands.
@@ -16,6 +17,8 @@ pub(crate) enum Group {
     Rasters,
     /// Those that write a picture that may be smoothed.
     Smoothed,
+    /// Those that write a picture in which labels may be texts.
+    Texts,
     /// Those that write a picture whose rows are independent, and nothing else.
     Rows,
     /// The subcommand draw.
@@ -39,7 +42,8 @@ impl Group {
         ensures { result ≡ has_draw self }
     {
         match self {
-            Group::All | Group::Pictures | Group::Rasters | Group::Smoothed | Group::Draw => true,
+            Group::All | Group::Pictures | Group::Rasters | Group::Smoothed => true,
+            Group::Texts | Group::Draw => true,
             Group::Rows | Group::Pcl => false,
         }
     }
@@ -52,6 +56,7 @@ impl Group {
             Group::Pictures => is_picture(output),
             Group::Rasters => is_raster(output),
             Group::Smoothed => is_smoothed(output),
+            Group::Texts => has_texts(output),
             Group::Rows => has_rows(output),
             Group::Draw => false,
             Group::Pcl => is_pcl(output),
@@ -85,6 +90,17 @@ pub(crate) fn is_smoothed(output: Output) -> bool
         Output::Picture(Form::Ppm) | Output::Png => true,
         Output::Picture(Form::Marks | Form::Pbm | Form::Pcl) => false,
         Output::Vector(_) | Output::Report => false,
+    }
+}
+
+/// Whether labels may be texts in this.
+pub(crate) fn has_texts(output: Output) -> bool
+    ensures { result ≡ has_texts output }
+{
+    match output {
+        Output::Vector(VectorFormat::Dxf) => true,
+        Output::Vector(VectorFormat::Svg | VectorFormat::Pdf) => false,
+        Output::Picture(_) | Output::Png | Output::Report => false,
     }
 }
 

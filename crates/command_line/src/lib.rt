@@ -9,6 +9,7 @@ mod fault;
 mod forms;
 mod groups;
 mod help;
+mod label_choices;
 mod line;
 mod options;
 mod pages;

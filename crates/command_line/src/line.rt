@@ -8,7 +8,7 @@ ghost use Rattle.command_line.specs.Lines.{extension_in, lists_no_pens, has_bad_
 ghost use Rattle.command_line.specs.Lines.{ArePensOf, IsPictureOf, IsPngJobOf, IsTaskOf, IsVectorOf, IsLineBy, IsLineOf, AreOfThisCommand};
 ghost use Rattle.command_line.specs.Lines.{has_stray_smooth, picture_fault, smooth_or, usual_smooth, dots_in, is_picture, selection_fault};
 ghost use Rattle.command_line.specs.Lines.{line_fault, pens_text, task_fault, values_fault};
-ghost use Rattle.command_line.specs.Lines.{files_in, has_no_place, has_pixels, output_fault, output_text, vector_fault};
+ghost use Rattle.command_line.specs.Lines.{files_in, has_no_place, has_pixels, labels_in, output_fault, output_text, vector_fault};
 ghost use Rattle.command_line.specs.Options.{is_smoothed};
 ghost use Rattle.command_line.specs.Readings.{HasNumbers, HasPens, HasValues, MayHaveNumber, stray_smooth_fault};
 
@@ -18,6 +18,7 @@ use crate::destination::Destination;
 use crate::fault::LineFault;
 use crate::forms::{extension_of, form_named};
 use crate::groups::is_smoothed;
+use crate::label_choices::labels_of;
 use crate::pages::{choice_of, page_of, pixels_of};
 use crate::sheets::{each_of, reading_of};
 use crate::subcommands::{Kind, Output, kind_of};
@@ -28,7 +29,8 @@ use clap::ArgMatches;
 use directions::Turn;
 use pen_list::read_pens;
 use picture_job::{
-    Job, PageChoice, Picture, PngJob, Reading, RowChoice, Smoothing, VectorFormat, VectorJob,
+    Job, LabelChoice, PageChoice, Picture, PngJob, Reading, RowChoice, Smoothing, VectorFormat,
+    VectorJob,
 };
 use picture_out::Form;
 use plot_page::{Dots, Page, PenSet};
@@ -83,15 +85,17 @@ pub struct Line<'m, 'a> {
 /// `output_of` gives is that of one. The extension of a folder's name says no form.
 ///
 /// Errors, of which the first is given: `Form` if draw is asked for a form that is none, `Pens` if a picture is asked for
-/// and `--pens` is not a valid list, `Colours` or `Widths` with the first bad item of such a list, `Shades` if `--smooth` is
-/// given for a form that may not be smoothed, `Smooth` if `--dots` times `--smooth` is over 1200, `NoPixels` if one of these or `--size` is given for a vector document, `Paper` if `--page` names
-/// no paper and not the plot, `Size` if `--page` is given with `--width` or `--height`, `BadSheet` if `--sheet` is no number
-/// of 0 to 4194304 and not `each`, `BadCharacters` if `--characters` names none, `Profile` if `--profile` is neither `core`
-/// nor `full`, `Sheet` or `Characters` if `--sheet` or `--characters` is given with the profile core, `NoPicture` or
-/// `NoFolder` if `--sheet` is `each` for a report, or without `--output` and not for a PDF, `Pixels` if `--size` is given with `--dots`,
-/// `PrinterPixels` if it is given for PCL, `Margin` if `--margin` is given and the page is not fitted, `BadTurn` if `--rotate` is no turn, and `Several` if
-/// several files are given without `--output`; no other one after a `parse` that succeeded. `Words` if the matches are of
-/// another command.
+/// and `--pens` is not a valid list, `Colours` or `Widths` with the first bad item of such a list, `BadLabels` if `--labels`
+/// is neither `text` nor `strokes`, `NoTexts` if it is given for a form other than DXF, `Labels` if it is given with the
+/// profile core, `Shades` if `--smooth` is given for a form that may not be smoothed, `Smooth` if `--dots` times `--smooth`
+/// is over 1200, `NoPixels` if one of these or `--size` is given for a vector document, `Paper` if `--page` names no paper
+/// and not the plot, `Size` if `--page` is given with `--width` or `--height`, `BadSheet` if `--sheet` is no number of 0 to
+/// 4194304 and not `each`, `BadCharacters` if `--characters` names none, `Profile` if `--profile` is neither `core` nor
+/// `full`, `Sheet` or `Characters` if `--sheet` or `--characters` is given with the profile core, `NoPicture` or `NoFolder`
+/// if `--sheet` is `each` for a report, or without `--output` and not for a PDF, `Pixels` if `--size` is given with
+/// `--dots`, `PrinterPixels` if it is given for PCL, `Margin` if `--margin` is given and the page is not fitted, `BadTurn`
+/// if `--rotate` is no turn, and `Several` if several files are given without `--output`; no other one after a `parse` that
+/// succeeded. `Words` if the matches are of another command.
 pub fn settle<'m, 'a>(
     matches: &'m ArgMatches<'a>,
     destination: Destination,
@@ -114,7 +118,8 @@ fn line_of<'m, 'a>(kind: Kind, options: &'m ArgMatches<'a>) -> Result<Line<'m, '
 {
     let (output, pens) = selection_of(kind, options)?;
     let carousel = carousel_of(options)?;
-    let task = task_of(kind, options, output, pens)?;
+    let labels = labels_of(kind, options)?;
+    let task = task_of(kind, options, output, pens, labels)?;
     let reading = reading_of(options)?;
     let each_sheet = each_of(kind, options)?;
     let pixels = pixels_of(kind, options)?;
@@ -161,9 +166,11 @@ fn task_of<'a>(
     options: &ArgMatches<'a>,
     output: Output,
     pens: PenSet,
+    labels: LabelChoice,
 ) -> Result<Task, LineFault<'a>>
     requires output { written kind (rows_of (found_of options.now)) ≡ Some output }
     requires selected { is_picture output ≡ true → ArePensOf (rows_of (found_of options.now)) pens }
+    requires labels { labels_in (rows_of (found_of options.now)) ≡ Some labels }
     ensures task { IfOk result (IsTaskOf kind (rows_of (found_of options.now))) }
     ensures pens { result ≢ Err LineFault.Pens }
     ensures refused { HasNumbers (rows_of (found_of options.now)) →
@@ -172,7 +179,7 @@ fn task_of<'a>(
     match output {
         Output::Picture(form) => picture_of(kind, options, form, pens),
         Output::Png => Ok(Task::Picture(Picture::Png(png_job_of(kind, options, true, pens)?))),
-        Output::Vector(format) => vector_of(options, format, pens),
+        Output::Vector(format) => vector_of(options, format, pens, labels),
         Output::Report => Ok(Task::Report(page_of(options)?)),
     }
 }
@@ -282,8 +289,10 @@ fn vector_of<'a>(
     options: &ArgMatches<'a>,
     format: VectorFormat,
     pens: PenSet,
+    labels: LabelChoice,
 ) -> Result<Task, LineFault<'a>>
-    requires { ArePensOf (rows_of (found_of options.now)) pens }
+    requires pens { ArePensOf (rows_of (found_of options.now)) pens }
+    requires labels { labels_in (rows_of (found_of options.now)) ≡ Some labels }
     ensures vector { IfOk result (IsVectorOf format (rows_of (found_of options.now))) }
     ensures pens { result ≢ Err LineFault.Pens }
     ensures refused { HasNumbers (rows_of (found_of options.now)) →
@@ -293,7 +302,12 @@ fn vector_of<'a>(
         return Err(LineFault::NoPixels);
     }
     let page = page_of(options)?;
-    let job = VectorJob { format, page, pens };
+    let job = VectorJob {
+        format,
+        page,
+        pens,
+        labels,
+    };
     Ok(Task::Picture(Picture::Vector(job)))
 }
 

@@ -39,7 +39,7 @@ pub(crate) struct OptionRow<'a> {
 }
 
 // All options, in the order of the help.
-static OPTIONS: [OptionRow<'static>; 25] = [
+static OPTIONS: [OptionRow<'static>; 26] = [
     OptionRow {
         name: "width",
         short: None,
@@ -351,6 +351,20 @@ static OPTIONS: [OptionRow<'static>; 25] = [
         pixels; --dots times --smooth is at most 1200 [default: 1]",
             ),
         ],
+    },
+    OptionRow {
+        name: "labels",
+        short: None,
+        aliases: &[],
+        group: Group::Texts,
+        value: Value::Word,
+        defaults: &[],
+        value_name: "NAME",
+        help: &[(
+            Group::All,
+            "How a DXF has labels in the profile full: text for texts in place of their strokes, or strokes for the strokes \
+        only [default: text]",
+        )],
     },
     OptionRow {
         name: "form",

@@ -4,6 +4,7 @@ use Rattle.plot_page.specs.declared.page.Page.{Page}
 use Rattle.plot_page.specs.declared.pens.PenSet.{PenSet}
 use Rattle.directions.specs.declared.turn.Turn.{Turn}
 use Rattle.directions.specs.declared.turn.Turn.TheVariants.{None}
+use Rattle.picture_job.specs.LabelChoices.{has_text}
 use Rattle.picture_job.specs.declared.page_choice.PageChoice.{PageChoice}
 use Rattle.picture_job.specs.declared.picture.Picture.{Picture}
 use Rattle.picture_job.specs.declared.picture.Picture.TheVariants.{Rows, Png, Vector}
@@ -38,9 +39,9 @@ pens_of (Rows job rows) = job.pens
 pens_of (Png job) = job.pens
 pens_of (Vector job) = job.pens
 
--- a vector document has the labels of the plot
+-- a vector document has the labels of the plot, unless they are strokes only
 abbrev pub has_labels : Picture → Bool
-has_labels (Vector job) = true
+has_labels (Vector job) = has_text job.labels
 has_labels _ = false
 
 -- the picture of a sheet of a drawing, or of all that is drawn for 0, which is possible, was written by what a gauge reaches,

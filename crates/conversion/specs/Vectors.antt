@@ -6,6 +6,8 @@ use Rattle.areas.specs.declared.area.Area.{Area}
 use Rattle.plot_page.specs.Segments.{Segment}
 use Rattle.plot_page.specs.declared.page.Page.{Page}
 use Rattle.plot_page.specs.declared.pens.PenSet.{PenSet}
+use Rattle.picture_job.specs.LabelChoices.{has_text}
+use Rattle.picture_job.specs.declared.vector_job.LabelChoice.{LabelChoice}
 use Rattle.picture_job.specs.declared.vector_job.VectorFormat.{VectorFormat}
 use Rattle.picture_job.specs.declared.vector_job.VectorFormat.TheVariants.{Dxf, Pdf, Svg}
 use Rattle.picture_job.specs.declared.vector_job.VectorJob.{VectorJob}
@@ -86,13 +88,17 @@ PutsVector IsIt sink sink' (Err Letters) = ⊤
 PutsVector IsIt sink sink' (Err Memory) = ⊤
 PutsVector IsIt sink sink' (Err _) = ⊥
 
+-- the labels of a sheet of a drawing that are written: all of them, or none if labels are strokes only
+abbrev pub labels_written : LabelChoice → Drawing → ℕ → List LabelShape
+labels_written choice drawing sheet = if has_text choice then labels_on drawing sheet else []
+
 -- the document of a sheet of a drawing, or of all that is drawn for 0, was written, on the page where the drawing lies; it has
 -- no rows, and its bytes are not counted
 pub record WritesVector (job : VectorJob) (naming : Naming) (drawing : Drawing) (sheet : ℕ) (sink sink' : SinkState)
     (answer : Result Outcome Fault) : Type 0 where
   pub puts : PutsVector (IsVector job.format naming drawing.page job.pens (shapes_on drawing sheet)
-      (ends_of sheet drawing.lines.ends.items) (labels_on drawing sheet)) sink sink' answer
-  pub letters : (answer ≡ Err Letters) ↔ (has_too_many_letters job.format (labels_on drawing sheet) ≡ true)
+      (ends_of sheet drawing.lines.ends.items) (labels_written job.labels drawing sheet)) sink sink' answer
+  pub letters : (answer ≡ Err Letters) ↔ (has_too_many_letters job.format (labels_written job.labels drawing sheet) ≡ true)
   pub rows : IfOk answer (λ outcome. outcome.done.rows ≡ 0)
   pub bytes : IfOk answer (λ outcome. outcome.done.bytes ≡ 0)
   pub tells : IfOk answer (TellsOf drawing job.pens (shapes_on drawing sheet))

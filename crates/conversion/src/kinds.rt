@@ -107,12 +107,12 @@ pub(crate) fn pens_of(picture: &Picture) -> PenSet
     }
 }
 
-/// Whether a picture has the labels of the plot.
+/// Whether a picture has the labels of the plot: a vector document, unless they are strokes only.
 pub(crate) fn has_labels(picture: &Picture) -> bool
     ensures { result ≡ has_labels picture.now }
 {
     match picture {
-        Picture::Vector(_) => true,
+        Picture::Vector(job) => job.labels.has_text(),
         _ => false,
     }
 }

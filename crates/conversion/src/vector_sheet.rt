@@ -7,7 +7,7 @@ ghost use Rattle.pdf.specs.declared.counts.TheConstants.{MOST_LETTERS};
 ghost use Rattle.plot_page.specs.declared.stroke.TheConstants.{MOST_STROKES};
 ghost use Rattle.conversion.specs.Conversions.{is_write};
 ghost use Rattle.conversion.specs.Rules.{ends_of};
-ghost use Rattle.conversion.specs.Vectors.{IsPdf, IsVector, PutsVector, WritesVector, dxf_of, has_too_many_letters, is_letters, svg_of, title_kept};
+ghost use Rattle.conversion.specs.Vectors.{IsPdf, IsVector, PutsVector, WritesVector, dxf_of, has_too_many_letters, is_letters, labels_written, svg_of, title_kept};
 
 use crate::fault::Fault;
 use crate::lines::Lines;
@@ -20,15 +20,17 @@ use deflate::TextEncoder;
 use devices::Sink;
 use dxf::{write_dxf, write_dxf_sheets};
 use full_plot::labels_on;
+use labels::Label;
 use pdf::{has_few_letters, room_for, write_pdf};
-use picture_job::{VectorFormat, VectorJob};
+use picture_job::{LabelChoice, VectorFormat, VectorJob};
 use std::alloc::Global;
 use stroke_runs::SheetView;
 use svg::{ClipPaths, write_svg, write_svg_sheets};
 
 /// Writes the vector document of a sheet of a drawing, which counts from 1, or of all that is drawn for 0, on the page where
 /// the drawing lies. The job's page is not used. Of all that is drawn an SVG has a group for each sheet, and a DXF layers, one
-/// above another, if sheets end, and a PDF a page for each. The drawing has the labels of the plot, if they were kept.
+/// above another, if sheets end, and a PDF a page for each. The drawing has the labels of the plot, if they were kept; they are
+/// written unless the job has them as strokes only.
 ///
 /// Errors: `Letters` if the labels have more letters than a PDF takes, and it is one; `Unfinished` if the sink fails, and what it has
 /// taken is of no use; `Memory` if memory is refused. The sink is as it was after `Letters` and `Memory`.
@@ -45,15 +47,9 @@ pub fn write_vector_sheet<K: Sink>(
     ensures untouched { IfErr result (λ fault. is_write fault ≡ false → sink.new ≡ sink.old) }
 {
     let lines = &drawing.lines;
-    let all = lines.strokes.as_slice();
     let shapes = drawing.shapes_on(sheet);
     let ends = ends_in(lines, sheet);
-    let (labels, before) = labels_on(
-        lines.labels.as_slice(),
-        lines.ends.as_slice(),
-        all.len(),
-        sheet,
-    );
+    let (labels, before) = labels_written(job.labels, drawing, sheet);
     let view = SheetView {
         page: &drawing.page,
         pens: &job.pens,
@@ -68,6 +64,22 @@ pub fn write_vector_sheet<K: Sink>(
         VectorFormat::Dxf => put_dxf(&view, ends, sink)?,
     }
     Ok(outcome_of(drawing, job.pens, shapes, 0, 0))
+}
+
+// The labels of a sheet that are written, and how many strokes come before the sheet: none if labels are strokes only.
+fn labels_written(labels: LabelChoice, drawing: &Drawing, sheet: u32) -> (&[Label], usize)
+    ensures { all_counted result.1 result.0.now ≡ labels_written labels drawing.now sheet }
+{
+    if !labels.has_text() {
+        return (&[], 0);
+    }
+    let lines = &drawing.lines;
+    labels_on(
+        lines.labels.as_slice(),
+        lines.ends.as_slice(),
+        lines.strokes.len(),
+        sheet,
+    )
 }
 
 // Where sheets end in what is drawn of a sheet: nowhere, unless it is all.

@@ -1,4 +1,7 @@
 //! A request for a vector document.
+ghost use Rattle.std.specs.Prelude.{◌≡◌};
+ghost use Rattle.picture_job.specs.LabelChoices.{has_text};
+
 use plot_page::{Page, PenSet};
 
 /// The formats of vector documents.
@@ -20,6 +23,18 @@ pub enum LabelChoice {
     Text,
     /// As strokes only.
     Strokes,
+}
+
+impl LabelChoice {
+    /// Whether labels are written as texts.
+    pub fn has_text(self) -> bool
+        ensures { result ≡ has_text self }
+    {
+        match self {
+            LabelChoice::Text => true,
+            LabelChoice::Strokes => false,
+        }
+    }
 }
 
 /// A request for a vector document: format, page, pens and labels. Its strokes are not pixels, so it has no resolution, and

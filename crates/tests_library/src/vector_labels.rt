@@ -2,9 +2,10 @@
 use crate::streams::{Reader, Writer};
 use crate::vectors::{ALL, count_of, job_of, run};
 use plotraster::{
-    Carousel, Encoding, OverRead, OverWrite, PageChoice, PenSet, Picture, Reading, Request, Setup,
-    Turn, Unwatched, VectorFormat, draw_sheets, naming_of, write_sheet,
+    Carousel, Encoding, LabelChoice, OverRead, OverWrite, PageChoice, PenSet, Picture, Reading,
+    Request, Setup, Turn, Unwatched, VectorFormat, VectorJob, draw_sheets, naming_of, write_sheet,
 };
+use std::alloc::Global;
 use std::test::Fail;
 
 // Labels of two pens on the first sheet, the second one of two lines, and one on the second sheet.
@@ -102,6 +103,59 @@ fn fonts_of_texts(rt: HostRuntime) -> Result<(), Fail> {
         run.answer?;
         let found = count_of(run.writer.bytes.as_slice(), b"/BaseFont/Courier");
         assert_eq!(rt; found, count);
+    }
+    Ok(())
+}
+
+// The document of all that is drawn for one job, written for another.
+fn drawn_and_written(alloc: Global, drawn: VectorJob, written: VectorJob) -> Result<Writer, Fail> {
+    let setup = Setup {
+        reading: ALL,
+        carousel: &Carousel::empty(),
+        choice: PageChoice::GIVEN,
+        turn: Turn::None,
+    };
+    let drawn = Picture::Vector(drawn);
+    let request = Request::new(setup, &drawn, naming_of(""))?;
+    let drawing = draw_sheets(alloc, &request, &mut OverRead::new(Reader::new(LABELLED)))?;
+    let written = Picture::Vector(written);
+    let request = Request::new(setup, &written, naming_of(""))?;
+    let (sink, outcome) = write_sheet(
+        alloc,
+        &request,
+        &drawing,
+        0,
+        OverWrite::new(Writer::new(alloc)),
+        &mut Unwatched,
+    );
+    outcome?;
+    Ok(sink.into_inner())
+}
+
+// With labels as strokes a DXF, and any other document, is that of the same strokes without labels, whether the labels were
+// kept or not.
+#[test]
+fn labels_as_strokes(rt: HostRuntime) -> Result<(), Fail> {
+    let alloc = rt.alloc();
+    for (format, text) in [
+        (VectorFormat::Dxf, "\nTEXT\n"),
+        (VectorFormat::Svg, "<title>"),
+        (VectorFormat::Pdf, "/BaseFont/Courier"),
+    ] {
+        let as_texts = job_of(format, PenSet::all())?;
+        let as_strokes = VectorJob {
+            labels: LabelChoice::Strokes,
+            ..as_texts
+        };
+        let texts = drawn_and_written(alloc, as_texts, as_texts)?;
+        assert!(rt; count_of(texts.bytes.as_slice(), text.as_bytes()) > 0);
+        let plain = drawn_and_written(alloc, as_strokes, as_texts)?;
+        for drawn in [as_texts, as_strokes] {
+            let strokes = drawn_and_written(alloc, drawn, as_strokes)?;
+            assert_eq!(rt; strokes.bytes.as_slice(), plain.bytes.as_slice());
+            let found = count_of(strokes.bytes.as_slice(), text.as_bytes());
+            assert_eq!(rt; found, 0);
+        }
     }
     Ok(())
 }

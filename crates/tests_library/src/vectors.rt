@@ -1,9 +1,9 @@
 //! Vector documents, by the call that the program makes.
 use crate::streams::{Reader, Writer};
 use plotraster::{
-    Carousel, Encoding, Fault, Naming, Outcome, OverRead, OverWrite, Page, PageChoice, PenSet,
-    Picture, Reading, Request, Setup, Task, Turn, Unwatched, VectorFormat, VectorJob, draw_sheets,
-    naming_of, number, run_task, status, write_sheet,
+    Carousel, Encoding, Fault, LabelChoice, Naming, Outcome, OverRead, OverWrite, Page, PageChoice,
+    PenSet, Picture, Reading, Request, Setup, Task, Turn, Unwatched, VectorFormat, VectorJob,
+    draw_sheets, naming_of, number, run_task, status, write_sheet,
 };
 use std::alloc::Global;
 use std::test::Fail;
@@ -34,12 +34,13 @@ const SECOND: &str =
 
 pub const FOOT: &str = "</g></svg>\n";
 
-// A job on a small page.
+// A job on a small page, with labels as texts.
 pub fn job_of(format: VectorFormat, pens: PenSet) -> Result<VectorJob, Fail> {
     Ok(VectorJob {
         format,
         page: Page::new(64, 64, 0, 0)?,
         pens,
+        labels: LabelChoice::Text,
     })
 }
 

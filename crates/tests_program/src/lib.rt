@@ -26,6 +26,8 @@ mod endings;
 #[cfg(test)]
 mod file_names;
 #[cfg(test)]
+mod label_choices;
+#[cfg(test)]
 mod line_cases;
 #[cfg(test)]
 mod line_smoothing;

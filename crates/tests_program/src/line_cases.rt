@@ -247,7 +247,7 @@ fn png_told(alloc: Global, job: &PngJob, file: Option<&str>) -> Result<String, A
     format!(in alloc; "png {width} {height} {left} {below} {dots} {times} {pens} of {file:?}")
 }
 
-// The format, the page, the pens and the file.
+// The format, the page, the pens, how labels are written, and the file.
 fn vector_told(alloc: Global, job: &VectorJob, file: Option<&str>) -> Result<String, AllocError> {
     let format = match job.format {
         VectorFormat::Pdf => "pdf",
@@ -257,7 +257,8 @@ fn vector_told(alloc: Global, job: &VectorJob, file: Option<&str>) -> Result<Str
     let page = job.page;
     let (width, height, left, below) = (page.width, page.height, page.left, page.below);
     let pens = pens_told(alloc, &job.pens)?;
-    format!(in alloc; "{format} {width} {height} {left} {below} {pens} of {file:?}")
+    let labels = job.labels;
+    format!(in alloc; "{format} {width} {height} {left} {below} {pens} {labels:?} of {file:?}")
 }
 
 // The form, with its smoothing if there is one, or the numbers in the order of the manual page, the most rows, if they are

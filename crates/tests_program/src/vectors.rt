@@ -3,7 +3,7 @@ use crate::line_cases::{Asked, has_answers};
 use std::test::Fail;
 
 const DOCUMENTS: &str = "\
-pdf 11880 8400 0 0 pens 1-255 of None
+pdf 11880 8400 0 0 pens 1-255 Text of None
 plotraster|pdf
 plotraster|pdf|--page=a4|--fit|--margin=3
 plotraster|draw|--form=pdf
@@ -11,20 +11,20 @@ plotraster|draw|-o|plan.pdf
 plotraster|draw|-o|out.svg/plan.Pdf
 plotraster|draw|-o|plan.svg|--form|PDF
 
-svg 11880 8400 0 0 pens 1-255 of None
+svg 11880 8400 0 0 pens 1-255 Text of None
 plotraster|svg
 plotraster|svg|-o|plan.pdf
 plotraster|draw|--form=svg|-o|plan
 plotraster|draw|-o|plan.SVG|--progress
 
-pdf 64 65536 3 4 pens 2-4 9-9 of Some(\"a.plt\")
+pdf 64 65536 3 4 pens 2-4 9-9 Text of Some(\"a.plt\")
 plotraster|pdf|--width=64|--height|65536|--left=3|--below=4|--pens|2-4,9|a.plt
 plotraster|draw|--form=pdf|--width=64|--height=65536|--left=3|--below=4|--pens=2-4,9|a.plt
 
-svg 8636 11176 0 0 pens 1-255 of None
+svg 8636 11176 0 0 pens 1-255 Text of None
 plotraster|svg|--page=letter-portrait
 
-dxf 11880 8400 0 0 pens 1-255 of None
+dxf 11880 8400 0 0 pens 1-255 Text of None
 plotraster|dxf
 plotraster|draw|-o|plan.DXF
 plotraster|draw|-o|plan.svg|--form=dxf

@@ -1,8 +1,6 @@
-use Rattle.std.proofs.Common.{◌≡◌, Err, Ok, length, ap, ap₂, rules, subst, ◌∙◌}
+use Rattle.std.proofs.Common.{Err, Ok, ap, rules, subst}
 use Rattle.areas.specs.Shapes.{ShapeList}
-use Rattle.full_plot.specs.Labels.{labels_of_sheet}
-use Rattle.labels.specs.Sheets.{all_counted}
-use Rattle.conversion.specs.Sheets.{TellsOf, labels_on}
+use Rattle.conversion.specs.Sheets.{TellsOf}
 use Rattle.conversion.proofs.Vectors.{fault_again, never_letters, no_fault, puts_same, same_fault, same_letters}
 use Rattle.conversion.proofs.vector_sheet.write_vector_sheet.Goals as goal
 use Rattle.conversion.proofs.vector_sheet.write_vector_sheet.Goals.{in-Svg+in_ok-put_svg-in-Svg, in-Pdf+in_ok-put_pdf-in-Pdf, in-Dxf+in_ok-put_dxf-in-Dxf}
@@ -11,10 +9,7 @@ pub returns-clause-writes : goal.returns-clause-writes
 returns-clause-writes g c =
     let drawing = c.args.drawing.now in
     let shapes = c.shapes_on-shapes.ensures.shapes in
-    let labels : all_counted c.labels_on-before.result.1 c.labels_on-before.result.0.now ≡ labels_on drawing c.args.sheet =
-    c.labels_on-before.ensures
-    ∙ ap (λ s. labels_of_sheet c.as_slice.result.now c.as_slice-2.result.now (length s) c.args.sheet) c.as_slice-all.ensures.value
-    ∙ ap₂ (λ l e. labels_of_sheet l e (length drawing.lines.strokes.items) c.args.sheet) c.as_slice.ensures.value c.as_slice-2.ensures.value in
+    let labels = c.labels_written-before.ensures in
     record {
       puts = elim c.match-job.branch [
         | in-Svg+in_ok-put_svg-in-Svg w ↦
@@ -44,11 +39,7 @@ returns-clause-writes g c =
 
 pub returns-in_err-put_svg-in-Svg-clause-writes : goal.returns-in_err-put_svg-in-Svg-clause-writes
 returns-in_err-put_svg-in-Svg-clause-writes g c =
-    let drawing = c.args.drawing.now in
-    let labels : all_counted c.labels_on-before.result.1 c.labels_on-before.result.0.now ≡ labels_on drawing c.args.sheet =
-    c.labels_on-before.ensures
-    ∙ ap (λ s. labels_of_sheet c.as_slice.result.now c.as_slice-2.result.now (length s) c.args.sheet) c.as_slice-all.ensures.value
-    ∙ ap₂ (λ l e. labels_of_sheet l e (length drawing.lines.strokes.items) c.args.sheet) c.as_slice.ensures.value c.as_slice-2.ensures.value in
+    let labels = c.labels_written-before.ensures in
     let e = c.in_err-put_svg-in-Svg.field-0.0 in
     record {
       puts = search rules;
@@ -61,11 +52,7 @@ returns-in_err-put_svg-in-Svg-clause-writes g c =
 
 pub returns-in_err-put_pdf-in-Pdf-clause-writes : goal.returns-in_err-put_pdf-in-Pdf-clause-writes
 returns-in_err-put_pdf-in-Pdf-clause-writes g c =
-    let drawing = c.args.drawing.now in
-    let labels : all_counted c.labels_on-before.result.1 c.labels_on-before.result.0.now ≡ labels_on drawing c.args.sheet =
-    c.labels_on-before.ensures
-    ∙ ap (λ s. labels_of_sheet c.as_slice.result.now c.as_slice-2.result.now (length s) c.args.sheet) c.as_slice-all.ensures.value
-    ∙ ap₂ (λ l e. labels_of_sheet l e (length drawing.lines.strokes.items) c.args.sheet) c.as_slice.ensures.value c.as_slice-2.ensures.value in
+    let labels = c.labels_written-before.ensures in
     let e = c.in_err-put_pdf-in-Pdf.field-0.0 in
     record {
       puts = search rules;
@@ -78,11 +65,7 @@ returns-in_err-put_pdf-in-Pdf-clause-writes g c =
 
 pub returns-in_err-put_dxf-in-Dxf-clause-writes : goal.returns-in_err-put_dxf-in-Dxf-clause-writes
 returns-in_err-put_dxf-in-Dxf-clause-writes g c =
-    let drawing = c.args.drawing.now in
-    let labels : all_counted c.labels_on-before.result.1 c.labels_on-before.result.0.now ≡ labels_on drawing c.args.sheet =
-    c.labels_on-before.ensures
-    ∙ ap (λ s. labels_of_sheet c.as_slice.result.now c.as_slice-2.result.now (length s) c.args.sheet) c.as_slice-all.ensures.value
-    ∙ ap₂ (λ l e. labels_of_sheet l e (length drawing.lines.strokes.items) c.args.sheet) c.as_slice.ensures.value c.as_slice-2.ensures.value in
+    let labels = c.labels_written-before.ensures in
     let e = c.in_err-put_dxf-in-Dxf.field-0.0 in
     record {
       puts = search rules;
