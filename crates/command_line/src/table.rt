@@ -362,7 +362,7 @@ static OPTIONS: [OptionRow<'static>; 26] = [
         value_name: "NAME",
         help: &[(
             Group::All,
-            "How a DXF has labels in the profile full: text for texts in place of their strokes, or strokes for the strokes \
+            "How a DXF has labels in the profile full: 'text' for texts in place of their strokes, or 'strokes' for the strokes \
         only [default: text]",
         )],
     },

@@ -5,7 +5,7 @@ use Rattle.std.proofs.lemmas.Bool.Decides.{nat_tests}
 use Rattle.std.specs.Fmt.{digits}
 use Rattle.std.specs.List.{All, list_any}
 use Rattle.areas.specs.declared.area.Area.{Area}
-use Rattle.labels.specs.Labels.{IsLine, LabelShape}
+use Rattle.labels.specs.Labels.{LabelShape}
 use Rattle.pieces.specs.Readings.{◌>>=◌}
 use Rattle.plot_page.specs.Segments.{Segment}
 use Rattle.plot_page.specs.declared.colour.Colour.{Colour}
@@ -20,6 +20,7 @@ use Rattle.dxf.specs.Layers.{colour_of, entry_if, layer_entry, layer_name, layer
 use Rattle.dxf.specs.Parts.{parts_text}
 use Rattle.dxf.specs.Reader.{Entity, Entry, Group, begins_entities, cut_groups, entities, groups, read_dxf, section_of_entities, up_to_end}
 use Rattle.dxf.specs.Readings.{entities_of, entities_of_sheets}
+use Rattle.dxf.specs.Readable.{IsReadable}
 use Rattle.dxf.specs.declared.layers.Layers.{Layers}
 use Rattle.dxf.specs.declared.sheets.Section.TheVariants.{Layers as LayersPart, Entities}
 use Rattle.dxf.proofs.EntityReads.{Shows, count_written, name_lacks, size_written}
@@ -196,7 +197,7 @@ all_read start parts xs s r =
     ∙ ap (λ (es : List Entry). entities es) (s.passed (entities_entry ∷ (r.entries ++ foot)) ∙ r.inside foot)
     ∙ r.reads [] ∙ ap (λ (ys : List Entity). Some ys) (append-nil xs)
 
-pub document_read : (page : Page) (pens : PenSet) (strokes : List Segment) (areas : List Area) (labels : List LabelShape) → All IsInRange strokes → All (λ l. All IsLine l.lines) labels
+pub document_read : (page : Page) (pens : PenSet) (strokes : List Segment) (areas : List Area) (labels : List LabelShape) → All IsInRange strokes → All (λ l. All IsReadable l.lines) labels
     → read_dxf (dxf_bytes page pens strokes areas labels) ≡ Some (entities_of None pens strokes areas labels)
 unfolding read_dxf
 document_read page pens strokes areas labels h k =
@@ -207,7 +208,7 @@ document_read page pens strokes areas labels h k =
     (six (start_text page) (layers_text layers) (table_end ++ styles_text ++ section_end) (section_start (codes "ENTITIES")) parts foot_text)
     ∙ all_read _ parts (entities_of None pens strokes areas labels) head (parts_shown None pens strokes areas labels (range_of strokes h) (near_of labels k))
 
-pub sheets_read : (page : Page) (pens : PenSet) (strokes : List Segment) (areas : List Area) (ends : List ℕ) (labels : List LabelShape) → All IsInRange strokes → All (λ l. All IsLine l.lines) labels
+pub sheets_read : (page : Page) (pens : PenSet) (strokes : List Segment) (areas : List Area) (ends : List ℕ) (labels : List LabelShape) → All IsInRange strokes → All (λ l. All IsReadable l.lines) labels
     → read_dxf (dxf_sheets_bytes page pens strokes areas ends labels) ≡ Some (entities_of_sheets pens 0 (labelled_sheets strokes areas ends labels))
 unfolding read_dxf
 sheets_read page pens strokes areas ends labels h k =

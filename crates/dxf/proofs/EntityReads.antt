@@ -41,7 +41,7 @@ past code c None rest h = refl
 past code c (Some text) rest h = ap (λ (b : Bool). cond b (Some text) (value c rest)) h
 
 -- itself is found, if no other one has its code
-found : (code : ℕ) (o : Option (List ℕ)) (rest : List Group) → value code rest ≡ None → value code (optional code o ++ rest) ≡ o
+pub found : (code : ℕ) (o : Option (List ℕ)) (rest : List Group) → value code rest ≡ None → value code (optional code o ++ rest) ≡ o
 found code None rest h = h
 found code (Some text) rest h = (let same : (code == code) ≡ true = grind (arith, nat_tests) in ap (λ (b : Bool). cond b (Some text) (value code rest)) same)
 

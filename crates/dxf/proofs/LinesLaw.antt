@@ -20,10 +20,10 @@ use Rattle.dxf.specs.declared.cuts.Line.{Line}
 use Rattle.dxf.specs.declared.cuts.Point.{Point}
 use Rattle.dxf.specs.declared.layers.Layers.{Layers}
 
-same_int : (a b : ℤ) → int_eq a b ≡ true → a ≡ b
+pub same_int : (a b : ℤ) → int_eq a b ≡ true → a ≡ b
 same_int a b h = grind (arith, ints, h)
 
-same_point : (p q : Point) → is_same_point p q ≡ true → p ≡ q
+pub same_point : (p q : Point) → is_same_point p q ≡ true → p ≡ q
 same_point p q h =
     let both = and_parts (int_eq p.x q.x) (int_eq p.y q.y) h in
     let x = same_int p.x q.x both.0 in
@@ -34,7 +34,7 @@ abbrev pub line_of_piece : Piece → Line
 line_of_piece p = record { from = p.from; to = p.to }
 
 -- each piece begins where the one before it ends
-abbrev AreLinked : Piece → List Piece → Type 0
+abbrev pub AreLinked : Piece → List Piece → Type 0
 AreLinked last [] = Unit {0}
 AreLinked last (q ∷ qs) = (last.to ≡ q.from) × AreLinked q qs
 
@@ -49,8 +49,7 @@ single_lines false seen p h = refl
 
 -- a chain that is closed ends where it began
 abbrev pub IsRight : Piece → List Piece → Type 0
-IsRight p [] = Unit {0}
-IsRight p (q ∷ qs) = AreLinked p (q ∷ qs) × ((last_of q qs).is_closed ≡ p.is_closed) × (p.is_closed ≡ true → is_same_point p.from (last_of q qs).to ≡ true)
+IsRight p ps = AreLinked p ps × ((last_of p ps).is_closed ≡ p.is_closed) × (p.is_closed ≡ true → is_same_point p.from (last_of p ps).to ≡ true)
 
 points_by : (closed b : Bool) (p q last : Piece) (qs : List Piece) (seen : Look) → p.is_closed ≡ closed → is_same_point p.from last.to ≡ b → (closed ≡ true → b ≡ true)
     → lines_of (Lines seen (Some (15625 * p.width)) closed (p.from ∷ (map (λ z. z.from) (q ∷ qs) ++ cond (closed && b) [] (last.to ∷ []))))
@@ -94,7 +93,7 @@ following_by : (b : Bool) (next : Piece) (f : Following) (ps : List Piece) → f
 following_by true next f ps h = ap (λ (zs : List Piece). next ∷ zs) h
 following_by false next f ps h = ap (λ (zs : List Piece). next ∷ zs) h
 
-none_goes_on : (ms : List Mark) → (following None ms).rest ≡ []
+pub none_goes_on : (ms : List Mark) → (following None ms).rest ≡ []
 none_goes_on [] = refl
 none_goes_on (Seen p ∷ ms) = refl
 none_goes_on (Break ∷ ms) = refl
@@ -108,7 +107,7 @@ all_pieces None (Break ∷ ms) = ap (λ (zs : List Piece). zs ++ pieces_of (foll
 all_pieces (Some last) (Break ∷ ms) = ap (λ (zs : List Piece). zs ++ pieces_of (following None ms).chains) (sym (none_goes_on ms)) ∙ all_pieces None ms
 
 -- pieces that are not closed
-abbrev AreOpen : List Piece → Type 0
+abbrev pub AreOpen : List Piece → Type 0
 AreOpen [] = Unit {0}
 AreOpen (p ∷ ps) = (p.is_closed ≡ false) × AreOpen ps
 
@@ -117,20 +116,19 @@ last_open p [] h k = h
 last_open p (q ∷ qs) h k = last_open q qs k.0 k.1
 
 open_right : (p : Piece) (ps : List Piece) → p.is_closed ≡ false → AreLinked p ps → AreOpen ps → IsRight p ps
-open_right p [] h l k = tt
-open_right p (q ∷ qs) h l k = (l, last_open q qs k.0 k.1 ∙ sym h, (λ e. (let impossible = sym h ∙ e in cc)))
+open_right p ps h l k = (l, last_open p ps h k ∙ sym h, (λ e. (let impossible = sym h ∙ e in cc)))
 
-abbrev AreLinkedIf : Option Piece → List Piece → Type 0
+abbrev pub AreLinkedIf : Option Piece → List Piece → Type 0
 AreLinkedIf None ps = Unit {0}
 AreLinkedIf (Some last) ps = AreLinked last ps
 
 -- what follows the last piece, of pieces that are not closed
-record IsOpen (last : Option Piece) (f : Following) : Type 0 where
-  linked : AreLinkedIf last f.rest
-  unclosed : AreOpen f.rest
-  right : AreRight f.chains
+pub record IsOpen (last : Option Piece) (f : Following) : Type 0 where
+  pub linked : AreLinkedIf last f.rest
+  pub unclosed : AreOpen f.rest
+  pub right : AreRight f.chains
 
-linked_by : (last next : Piece) → goes_on last next ≡ true → last.to ≡ next.from
+pub linked_by : (last next : Piece) → goes_on last next ≡ true → last.to ≡ next.from
 linked_by last next h =
     same_point last.to next.from (and_parts ((last.pen == next.pen && last.width == next.width) && is_same_colour last.colour next.colour) (is_same_point last.to next.from) h).1
 
@@ -145,7 +143,7 @@ open_step : (last : Option Piece) (next : Piece) (f : Following) → next.is_clo
 open_step None next f h k = begun None next f tt h k
 open_step (Some last) next f h k = step_by (goes_on last next) last next f refl h k
 
-no_more : (last : Option Piece) → AreLinkedIf last []
+pub no_more : (last : Option Piece) → AreLinkedIf last []
 no_more None = tt
 no_more (Some last) = tt
 
@@ -153,27 +151,27 @@ no_more (Some last) = tt
 abbrev stroke_marks_of : List Segment → List Mark
 stroke_marks_of ss = flat_map shape_marks (map stroke_shape ss)
 
-one_open : (o : Option Line) (last : Option Piece) (s : Segment) (ms : List Mark) → ((next : Option Piece) → IsOpen next (following next ms)) → IsOpen last (following last (mark_if (piece_on s.width false s o) ++ ms))
-one_open None last s ms h = h last
-one_open (Some line) last s ms h =
-    let next : Piece = record { pen = s.pen; colour = s.colour; width = s.width; is_closed = false; from = line.from; to = line.to } in
+pub one_open : (o : Option Line) (last : Option Piece) (width : ℕ) (s : Segment) (ms : List Mark) → ((next : Option Piece) → IsOpen next (following next ms)) → IsOpen last (following last (mark_if (piece_on width false s o) ++ ms))
+one_open None last width s ms h = h last
+one_open (Some line) last width s ms h =
+    let next : Piece = record { pen = s.pen; colour = s.colour; width = width; is_closed = false; from = line.from; to = line.to } in
     open_step last next (following (Some next) ms) refl (h (Some next))
 
 marks_open : (last : Option Piece) (ss : List Segment) → IsOpen last (following last (stroke_marks_of ss))
 marks_open last [] = record { linked = no_more last; unclosed = tt; right = tt }
 marks_open last (s ∷ ss) =
     subst (λ (ms : List Mark). IsOpen last (following last (ms ++ stroke_marks_of ss))) (sym (append-nil (stroke_marks s)))
-    (one_open (line_of s) last s (stroke_marks_of ss) (λ next. marks_open next ss))
+    (one_open (line_of s) last s.width s (stroke_marks_of ss) (λ next. marks_open next ss))
 
 -- their lines
-seen_both : (ms ns : List Mark) → seen_of (ms ++ ns) ≡ seen_of ms ++ seen_of ns
+pub seen_both : (ms ns : List Mark) → seen_of (ms ++ ns) ≡ seen_of ms ++ seen_of ns
 seen_both [] ns = refl
 seen_both (Seen p ∷ ms) ns = ap (λ (zs : List Piece). p ∷ zs) (seen_both ms ns)
 seen_both (Break ∷ ms) ns = seen_both ms ns
 
-one_line : (o : Option Line) (s : Segment) (ls : List Line) → map line_of_piece (seen_of (mark_if (piece_on s.width false s o))) ++ ls ≡ cons_option o ls
-one_line None s ls = refl
-one_line (Some line) s ls = refl
+pub one_line : (o : Option Line) (width : ℕ) (closed : Bool) (s : Segment) (ls : List Line) → map line_of_piece (seen_of (mark_if (piece_on width closed s o))) ++ ls ≡ cons_option o ls
+one_line None width closed s ls = refl
+one_line (Some line) width closed s ls = refl
 
 lines_seen : (ss : List Segment) → map line_of_piece (seen_of (stroke_marks_of ss)) ≡ filter_map line_of ss
 lines_seen [] = refl
@@ -183,7 +181,7 @@ lines_seen (s ∷ ss) =
     ∙ ap (λ (ps : List Piece). map line_of_piece ps) (seen_both own (stroke_marks_of ss))
     ∙ map-append line_of_piece (seen_of own) (seen_of (stroke_marks_of ss))
     ∙ ap (λ (ls : List Line). map line_of_piece (seen_of own) ++ ls) (lines_seen ss)
-    ∙ one_line (line_of s) s (filter_map line_of ss)
+    ∙ one_line (line_of s) s.width false s (filter_map line_of ss)
 
 strokes_drawn_by : (b : Bool) (s : Segment) (ss : List Segment) (ts : List Shape) → ts ≡ map stroke_shape ss → cond b (stroke_shape s ∷ ts) ts ≡ map stroke_shape (cond b (s ∷ ss) ss)
 strokes_drawn_by true s ss ts h = ap (λ (zs : List Shape). stroke_shape s ∷ zs) h

@@ -169,6 +169,11 @@ unsigned (c ∷ cs) n h e =
     let one = (or_parts (c == 45) (list_any (λ c. c == 45) cs) h).0 in
     ap (λ (b : Bool). cond b (option_map (λ n. neg_ℤ (pos n)) (size cs)) (option_map pos (size (c ∷ cs)))) one ∙ ap (λ (o : Option ℕ). option_map pos o) e
 
+-- by its sign and its size
+pub signed_is : (b : Bool) (n : ℕ) → n < 10000000 * 2 ^ 64 → signed (signed_text b n) ≡ Some (cond b (neg_ℤ (pos n)) (pos n))
+signed_is true n h = ap (λ (o : Option ℕ). option_map (λ n. neg_ℤ (pos n)) o) (size_read n h)
+signed_is false n h = unsigned (size_text n) n (size_lacks (λ c. c == 45) minus_passes refl n) (size_read n h)
+
 either_signed : (b : Bool) (z : ℤ) → int_lt z (pos 0) ≡ b → nat_abs z < 10000000 * 2 ^ 64 → signed (cond b (codes "-") [] ++ size_text (nat_abs z)) ≡ Some z
 either_signed true z e h =
     let negative : neg_ℤ (pos (nat_abs z)) ≡ z = grind (arith, ints, e) in

@@ -3,7 +3,7 @@ use Rattle.std.proofs.Common.{ℕ, ◌+◌, Bool, true, false, cond, List, [], �
 use Rattle.std.specs.List.{All}
 use Rattle.std.proofs.lemmas.List.Elements.{All-head, All-tail}
 use Rattle.areas.specs.declared.area.Area.{Area}
-use Rattle.labels.specs.Labels.{IsLine, LabelShape, LineShape}
+use Rattle.labels.specs.Labels.{LabelShape, LineShape}
 use Rattle.labels.specs.Sheets.{all_counted, count_to, labels_to}
 use Rattle.plot_page.specs.Segments.{Segment}
 use Rattle.plot_page.specs.declared.pens.PenSet.{PenSet}
@@ -17,6 +17,7 @@ use Rattle.dxf.specs.Layers.{layers_of}
 use Rattle.dxf.specs.Letters.{is_written, lines_text}
 use Rattle.dxf.specs.Parts.{label_by, label_stroke, parts_after, parts_text}
 use Rattle.dxf.specs.Readings.{chain_entities, entities_after, entities_of, entities_of_sheets, label_entities, line_entities, shape_entities}
+use Rattle.dxf.specs.Readable.{IsReadable}
 use Rattle.dxf.specs.declared.layers.Layers.{Layers}
 use Rattle.dxf.specs.declared.sheets.Section.TheVariants.{Entities}
 use Rattle.dxf.proofs.EntityReads.{Shows, chain_shown, shows_both, shows_none}
@@ -38,14 +39,14 @@ abbrev pub AreNear : List LabelShape → Type 0
 AreNear [] = Unit {0}
 AreNear (l ∷ ls) = AreLines l.lines × AreNear ls
 
-lines_of_all : (ls : List LineShape) → All IsLine ls → AreLines ls
+lines_of_all : (ls : List LineShape) → All IsReadable ls → AreLines ls
 lines_of_all [] h = tt
-lines_of_all (l ∷ ls) h = (All-head IsLine l ls h, lines_of_all ls (All-tail IsLine l ls h))
+lines_of_all (l ∷ ls) h = (All-head IsReadable l ls h, lines_of_all ls (All-tail IsReadable l ls h))
 
-pub near_of : (ls : List LabelShape) → All (λ l. All IsLine l.lines) ls → AreNear ls
+pub near_of : (ls : List LabelShape) → All (λ l. All IsReadable l.lines) ls → AreNear ls
 near_of [] h = tt
 near_of (l ∷ ls) h =
-    let P : LabelShape → Type 0 = λ k. All IsLine k.lines in
+    let P : LabelShape → Type 0 = λ k. All IsReadable k.lines in
     (lines_of_all l.lines (All-head P l ls h), near_of ls (All-tail P l ls h))
 
 near_cut : (at : ℕ) (ls : List LabelShape) → AreNear ls → AreNear (cut_labels at ls)

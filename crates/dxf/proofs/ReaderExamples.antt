@@ -1,6 +1,7 @@
 -- Small documents, read.
-use Rattle.std.proofs.Common.{◌≡◌, ℕ, ℤ, pos, negsuc, List, [], ◌∷◌, ◌++◌, true, false, Some, None, codes, map, refl}
-use Rattle.dxf.specs.Reader.{Entity, Letters, Lines, groups, letters, read_dxf, signed, size}
+use Rattle.std.proofs.Common.{◌≡◌, ℕ, ℤ, pos, negsuc, List, [], ◌∷◌, ◌++◌, Bool, true, false, Option, Some, None, codes, map, refl}
+use Rattle.pieces.specs.Readings.{◌>>=◌}
+use Rattle.dxf.specs.Reader.{Entity, Letters, Lines, Look, TextForm, groups, letters, read_dxf, signed, size}
 use Rattle.dxf.specs.Readings.{lines_of}
 use Rattle.dxf.specs.declared.cuts.Point.{Point}
 
@@ -49,11 +50,47 @@ closed_lines : lines_of outline
     ∷ record { from = at (pos 10000000) (pos 20000000); to = at (pos 0) (pos 0) } ∷ []
 closed_lines = refl
 
+-- the layer of pen 1
+abbrev layer_1 : Look
+layer_1 = record { layer = codes "PEN_1"; colour = None }
+
+-- letters of this height, angle, factor and oblique angle
+abbrev form : ℕ → ℕ → ℕ → ℤ → Bool → TextForm
+form height angle factor oblique is_mirrored =
+    record { height = height; angle = angle; factor = factor; oblique = oblique; is_mirrored = is_mirrored }
+
 -- a point, and a text that is fit between two points
 two : read_dxf (document (codes "0\nPOINT\n8\nPEN_1\n10\n3\n20\n4\n0\nTEXT\n8\nPEN_1\n10\n0\n20\n0\n40\n5\n1\nA\n50\n0\n41\n1\n7\nSTANDARD\n72\n5\n11\n6\n21\n0\n"))
-    ≡ Some (Lines (record { layer = codes "PEN_1"; colour = None }) None false (at (pos 30000000) (pos 40000000) ∷ []) ∷ Letters (record { layer = codes "PEN_1"; colour = None }) (at (pos 0) (pos 0)) (Some (at (pos 60000000) (pos 0))) (65 ∷ []) ∷ [])
+    ≡ Some (Lines layer_1 None false (at (pos 30000000) (pos 40000000) ∷ []) ∷ Letters layer_1 (at (pos 0) (pos 0)) (Some (at (pos 60000000) (pos 0))) (form 50000000 0 10000000 (pos 0) false) (65 ∷ []) ∷ [])
 unfolding read_dxf
 two = refl
+
+-- a text of which the other values are these
+abbrev text_of : List ℕ → List ℕ
+text_of values = document (codes "0\nTEXT\n8\nPEN_1\n10\n0\n20\n0\n1\nA\n" ++ values ++ codes "72\n0\n")
+
+-- what is read of it, if letters lie so
+abbrev one_text : Option TextForm → Option (List Entity)
+one_text found = found >>= (λ f. Some (Letters layer_1 (at (pos 0) (pos 0)) None f (65 ∷ []) ∷ []))
+
+-- how letters lie: tall ones on a line upward, that lean forward, that lean back, that are upside down or not; and with another
+-- flag, without a height, and with angles that are none
+forms : map (λ values. read_dxf (text_of values)) (
+    codes "40\n2.7\n50\n90\n41\n0.5\n"
+    ∷ codes "40\n2.7\n50\n359.9999\n41\n0.0001\n51\n20.5\n"
+    ∷ codes "40\n0.0015625\n50\n0\n41\n12\n51\n-85\n71\n4\n"
+    ∷ codes "40\n1\n50\n0\n41\n1\n71\n0\n"
+    ∷ codes "40\n1\n50\n0\n41\n1\n71\n2\n"
+    ∷ codes "50\n0\n41\n1\n"
+    ∷ codes "40\n1\n50\n-90\n41\n1\n"
+    ∷ codes "40\n1\n50\n0\n41\n1\n51\nx\n" ∷ [])
+    ≡ map one_text (
+    Some (form 27000000 900000000 5000000 (pos 0) false)
+    ∷ Some (form 27000000 3599999000 1000 (pos 205000000) false)
+    ∷ Some (form 15625 0 120000000 (negsuc 849999999) true)
+    ∷ Some (form 10000000 0 10000000 (pos 0) false) ∷ None ∷ None ∷ None ∷ None ∷ [])
+unfolding read_dxf
+forms = refl
 
 -- another entity, a line without its second point, and one of which the width changes, are refused
 others : map (λ text. read_dxf (document text)) (

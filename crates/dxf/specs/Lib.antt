@@ -13,5 +13,7 @@ pub mod Groups
 -- What a reader finds in a document.
 pub mod Reader
 pub mod Readings
+pub mod Outlines
 -- What contracts of private functions need.
 pub mod Steps
+pub mod Readable

@@ -113,11 +113,21 @@ look fields = do
   colour ← colour_in (value 62 fields)
   Some (record { layer = layer; colour = colour })
 
+-- how the letters of a text lie: their height, in parts; the angle of their line, counterclockwise from the right, in parts of a
+-- degree; their width as a share of their height, in parts of 1; the angle by which they lean forward, less than 0 if they lean
+-- back, in parts of a degree; and whether they are upside down
+pub record TextForm : Type 0 where
+  pub height : ℕ
+  pub angle : ℕ
+  pub factor : ℕ
+  pub oblique : ℤ
+  pub is_mirrored : Bool
+
 -- lines from point to point, and back to the first one if they are closed, of a width if they have one; and a text that begins at
 -- a point, and ends at another one if it is fit between the two
 pub data Entity : Type 0 where
   Lines : Look → Option ℕ → Bool → List Point → Entity
-  Letters : Look → Point → Option Point → List ℕ → Entity
+  Letters : Look → Point → Option Point → TextForm → List ℕ → Entity
 
 abbrev pub is_kind : List ℕ → Entry → Bool
 is_kind name e = is_text e.kind name
@@ -158,14 +168,36 @@ read_polyline fields others = do
 abbrev pub second_point : ℕ → List Group → Option (Option Point)
 second_point way fields = if way == 5 then option_map Some (point 11 21 fields) else Some None
 
+-- letters lean if an angle is given, and are upside down if the flag 4 is
+abbrev pub oblique_in : Option (List ℕ) → Option ℤ
+oblique_in None = Some (pos 0)
+oblique_in (Some text) = signed text
+
+abbrev pub mirrored_by : ℕ → Option Bool
+mirrored_by flag = given (flag == 0 || flag == 4) (Some (flag == 4))
+
+abbrev pub mirrored_in : Option (List ℕ) → Option Bool
+mirrored_in None = Some false
+mirrored_in (Some text) = number text >>= mirrored_by
+
+abbrev pub text_form : List Group → Option TextForm
+text_form fields = do
+  height ← value 40 fields >>= size
+  angle ← value 50 fields >>= size
+  factor ← value 41 fields >>= size
+  oblique ← oblique_in (value 51 fields)
+  is_mirrored ← mirrored_in (value 71 fields)
+  Some (record { height = height; angle = angle; factor = factor; oblique = oblique; is_mirrored = is_mirrored })
+
 abbrev pub read_text : List Group → Option Entity
 read_text fields = do
   seen ← look fields
   p ← point 10 20 fields
   way ← value 72 fields >>= number
   end ← second_point way fields
+  form ← text_form fields
   text ← value 1 fields >>= letters
-  Some (Letters seen p end text)
+  Some (Letters seen p end form text)
 
 -- an entity, by the entry that it begins with and those after it
 abbrev pub entity : Entry → List Entry → Option Entity

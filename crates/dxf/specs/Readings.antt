@@ -1,5 +1,5 @@
 -- What the entities of a document are, and which lines they show.
-use Rattle.std.specs.Prelude.{ℕ, ◌+◌, ◌*◌, ◌==◌, ◌&&◌, false, List, [], ◌∷◌, ◌++◌, flat_map, length, map, Option, Some, None, if◌then◌else◌}
+use Rattle.std.specs.Prelude.{ℕ, ◌+◌, ◌*◌, ◌==◌, ◌&&◌, ℤ, pos, neg_ℤ, false, List, [], ◌∷◌, ◌++◌, flat_map, length, map, Option, Some, None, if◌then◌else◌}
 use Rattle.areas.specs.Shapes.{Shape}
 use Rattle.areas.specs.declared.area.Area.{Area}
 use Rattle.labels.specs.Labels.{LabelShape, LineShape}
@@ -17,10 +17,11 @@ use Rattle.dxf.specs.Forms.{form_of}
 use Rattle.dxf.specs.Layers.{colour_of, layer_name, layers_of}
 use Rattle.dxf.specs.Letters.{has_letters, is_written, letter}
 use Rattle.dxf.specs.Parts.{label_stroke}
-use Rattle.dxf.specs.Reader.{Entity, Letters, Lines, Look}
+use Rattle.dxf.specs.Reader.{Entity, Letters, Lines, Look, TextForm}
 use Rattle.dxf.specs.declared.chains.Piece.{Piece}
 use Rattle.dxf.specs.declared.cuts.Line.{Line}
 use Rattle.dxf.specs.declared.cuts.Point.{Point}
+use Rattle.dxf.specs.declared.forms.Form.{Form}
 use Rattle.dxf.specs.declared.groups.TheConstants.{GRAIN}
 use Rattle.dxf.specs.declared.layers.Layers.{Layers}
 
@@ -55,11 +56,24 @@ chain_entities layers cs = map (λ c. chain_entity layers c.first c.others) cs
 abbrev pub shape_entities : Layers → PenSet → List Shape → List Entity
 shape_entities layers pens shapes = chain_entities layers (chains (marks pens shapes))
 
+-- how letters lie that lie so
+abbrev pub oblique_of : Form → ℤ
+oblique_of form = if form.is_backward then neg_ℤ (pos (1000 * form.leaning)) else pos (1000 * form.leaning)
+
+abbrev pub text_form_of : Form → TextForm
+text_form_of form = record {
+  height = form.height;
+  angle = 1000 * form.rotation;
+  factor = form.factor;
+  oblique = oblique_of form;
+  is_mirrored = form.is_mirrored;
+}
+
 -- a line of letters, with the layer and the colour of a stroke
 abbrev pub letters_of : Layers → Segment → LineShape → Entity
 letters_of layers s l =
     Letters (look_of layers s.pen s.colour) (point_of l.start.x l.start.y)
-    (if (form_of l).is_fit then Some (point_of l.end.x l.end.y) else None) (map letter l.text)
+    (if (form_of l).is_fit then Some (point_of l.end.x l.end.y) else None) (text_form_of (form_of l)) (map letter l.text)
 
 abbrev pub line_entities : Layers → Segment → LineShape → List Entity
 line_entities layers s l = if has_letters l then letters_of layers s l ∷ [] else []
@@ -102,4 +116,4 @@ abbrev pub lines_of : Entity → List Line
 lines_of (Lines seen width closed []) = []
 lines_of (Lines seen width closed (p ∷ [])) = record { from = p; to = p } ∷ []
 lines_of (Lines seen width closed (p ∷ q ∷ qs)) = lines_through p (q ∷ (qs ++ (if closed then p ∷ [] else [])))
-lines_of (Letters seen start end text) = []
+lines_of (Letters seen start end form text) = []

@@ -1,6 +1,7 @@
 //! How the letters of a line lie on the page.
 ghost use Rattle.std.specs.Prelude.{◌≡◌, ◌≤◌, ◌<◌, ◌^◌, ◌*◌, ◌/◌, ◌*ℤ◌, nat_abs};
 ghost use Rattle.labels.specs.Labels.{IsNear};
+ghost use Rattle.dxf.specs.Readable.{IsSmallForm};
 ghost use Rattle.dxf.specs.Forms.{cross, crossed, dot, factor_of, form_by, form_of, height_of, leaning_of, length_of, rotation_of, some_height, square, turned, way};
 
 use crate::angles::{Vector, angle_within, direction, rounded};
@@ -32,7 +33,8 @@ pub(crate) struct Form {
 
 // How the letters of a line lie.
 pub(crate) fn form_of(line: &Line) -> Form
-    ensures { result ≡ form_of line.now }
+    ensures value { result ≡ form_of line.now }
+    ensures small { IsSmallForm result }
 {
     form_by(
         way(line.start, line.end),
@@ -61,7 +63,8 @@ fn form_by(u: Vector, v: Vector, letters: usize) -> Form
     requires uy { nat_abs u.y ≤ 268435456 }
     requires vx { nat_abs v.x ≤ 268435456 }
     requires vy { nat_abs v.y ≤ 268435456 }
-    ensures { result ≡ form_by u v letters }
+    ensures value { result ≡ form_by u v letters }
+    ensures small { IsSmallForm result }
 {
     let height = height_of(u, v);
     Form {
@@ -196,7 +199,8 @@ fn factor_of(u: Vector, letters: usize, height: u128) -> u128
     requires x { nat_abs u.x ≤ 268435456 }
     requires y { nat_abs u.y ≤ 268435456 }
     requires height { height < 2 ^ 64 }
-    ensures { result ≡ factor_of u letters height }
+    ensures value { result ≡ factor_of u letters height }
+    ensures most { result < 10000000 * 2 ^ 64 }
 {
     let wide = length_of(u) * 10_000;
     1000 * (wide / product_of(letters, height).max(1)).max(1)
@@ -224,7 +228,8 @@ fn rotation_of(u: Vector, v: Vector) -> u64
     requires uy { nat_abs u.y ≤ 268435456 }
     requires vx { nat_abs v.x ≤ 268435456 }
     requires vy { nat_abs v.y ≤ 268435456 }
-    ensures { result ≡ rotation_of u v }
+    ensures value { result ≡ rotation_of u v }
+    ensures most { result < 3600000 }
 {
     if crossed(u, v) == 0 {
         direction(turned(v))
@@ -239,7 +244,8 @@ fn leaning_of(u: Vector, v: Vector) -> u64
     requires uy { nat_abs u.y ≤ 268435456 }
     requires vx { nat_abs v.x ≤ 268435456 }
     requires vy { nat_abs v.y ≤ 268435456 }
-    ensures { result ≡ leaning_of u v }
+    ensures value { result ≡ leaning_of u v }
+    ensures most { result ≤ 850000 }
 {
     let across = crossed(u, v);
     if across == 0 {

@@ -1,9 +1,8 @@
-use Rattle.std.proofs.Common.{◌≡◌, ◌∙◌, List, Option, Some, None, true, false, refl, sym, ap, codes}
+use Rattle.std.proofs.Common.{◌≡◌, ◌∙◌, List, Some, None, refl, sym, ap}
 use Rattle.clap.specs.Words.{Row, found_of, rows_of}
-use Rattle.picture_job.specs.declared.vector_job.LabelChoice.{LabelChoice}
-use Rattle.command_line.specs.declared.fault.LineFault.TheVariants.{BadLabels, Labels, NoTexts}
+use Rattle.command_line.specs.declared.fault.LineFault.TheVariants.{BadLabels}
 use Rattle.command_line.specs.declared.subcommands.Kind.{Kind}
-use Rattle.command_line.specs.Lines.{has_profile, is_given, labels_fault, labels_in, writes_texts}
+use Rattle.command_line.specs.Lines.{labels_fault, labels_in}
 use Rattle.command_line.proofs.Given.{its_fault, not_known, passed_fault, was_some}
 use Rattle.command_line.proofs.label_choices.labels_of.Goals as goal
 

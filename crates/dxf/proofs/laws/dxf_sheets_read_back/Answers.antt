@@ -4,4 +4,4 @@ use Rattle.dxf.proofs.laws.dxf_sheets_read_back.Goals as goal
 
 pub returns : goal.returns
 returns c =
-    sheets_read c.args.page.now c.args.pens.now c.args.strokes.now (areas_in c.args.areas) c.args.ends.now c.args.labels.now c.strokes_are_in_range.ensures c.labels_are_near.ensures
+    sheets_read c.args.page.now c.args.pens.now c.args.strokes.now (areas_in c.args.areas) c.args.ends.now c.args.labels.now c.strokes_are_in_range.ensures c.labels_are_readable.ensures
