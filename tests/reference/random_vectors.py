@@ -28,7 +28,7 @@ def random_vector_case(seed):
         case = with_windows(case, chance)
     if case.options.get("profile") == "full":
         case = with_sheets(case, chance)
-    if case.options.get("profile", "full" if case.form == "draw" else "core") == "full" and chance.random() < 0.6:
+    if profile_of(case) == "full" and chance.random() < 0.6:
         case = with_labels(case, chance)
     if chance.random() < 0.02:
         case.options[chance.choice(OTHERS)] = "100"
@@ -36,6 +36,11 @@ def random_vector_case(seed):
     if case.form in VECTORS and chance.random() < 0.3:
         case = fitted_case(case, chance)
     return with_labels_written(with_characters(case, chance), chance)
+
+
+def profile_of(case):
+    """The profile of a case, by default that of its command."""
+    return case.options.get("profile", "full" if case.form == "draw" else "core")
 
 
 def drawn_case(case, chance):
@@ -69,8 +74,8 @@ def with_labels(case, chance):
 
 def with_labels_written(case, chance):
     """The case, if it is a DXF of the profile full mostly with a choice of how it has labels, and else rarely, which is wrong."""
-    form, profile = case.options.get("form", case.form).lower(), case.options.get("profile")
-    if chance.random() >= (0.6 if form == "dxf" and profile != "core" else 0.01):
+    form, profile = case.options.get("form", case.form).lower(), profile_of(case)
+    if chance.random() >= (0.6 if form == "dxf" and profile == "full" else 0.01):
         return case
     labels = chance.choice((*LABELS, AS_STROKES)) if chance.random() < 0.97 else "Text"
     return case._replace(options={**case.options, "labels": labels})

@@ -158,7 +158,7 @@ labels = refl
 
 -- what is wrong with how labels are to be written
 faults_of_labels : Table value_fault_on (
-    (codes "draw --output=plan.dxf --labels=strokes", None)  -- a file's name says the form
+    (codes "draw --form=DXF --labels=strokes", None)  -- labels of a DXF
     ∷ (codes "dxf --labels=text", Some (Plain fault.Labels))  -- labels in core
     ∷ (codes "dxf --labels=text --profile=none", Some (Plain fault.Profile))  -- labels in no profile
     ∷ (codes "draw --labels=text --profile=core", Some (Plain fault.NoTexts))  -- form before profile

@@ -3,7 +3,7 @@ use Rattle.clap.specs.Words.{Row, found_of, rows_of}
 use Rattle.command_line.specs.declared.fault.LineFault.TheVariants.{BadLabels}
 use Rattle.command_line.specs.declared.subcommands.Kind.{Kind}
 use Rattle.command_line.specs.Lines.{labels_fault, labels_in}
-use Rattle.command_line.proofs.Given.{its_fault, not_known, passed_fault, was_some}
+use Rattle.command_line.proofs.Given.{its_fault, not_known, passed_fault}
 use Rattle.command_line.proofs.label_choices.labels_of.Goals as goal
 
 bad_labels : (kind : Kind) (rows : List Row) → labels_in rows ≡ None → labels_fault kind rows ≡ Some BadLabels
