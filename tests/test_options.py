@@ -299,7 +299,8 @@ def test_quoted_values_of_help(program):
     for command in commands_in_help(program):
         words = words_in_help(program, command)
         pens, form = (["--pens"] if command != "report" else []), (["--form"] if command == "draw" else [])
-        assert list(words) == ["--profile", *pens, *form]
+        labels = ["--labels"] if command in ("draw", "dxf") else []
+        assert list(words) == ["--profile", *pens, *labels, *form]
         for name, values in words.items():
             assert options_in_help(program, command)[name][2] in values
             assert all(takes(program, command, f"{name}={word}") for word in values)

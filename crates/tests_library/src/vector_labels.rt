@@ -114,6 +114,7 @@ fn drawn_and_written(alloc: Global, drawn: VectorJob, written: VectorJob) -> Res
         carousel: &Carousel::empty(),
         choice: PageChoice::GIVEN,
         turn: Turn::None,
+        counts: false,
     };
     let drawn = Picture::Vector(drawn);
     let request = Request::new(setup, &drawn, naming_of(""))?;
