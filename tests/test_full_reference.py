@@ -1,5 +1,5 @@
 """Checks the plain plotter of tests/reference in the profile full, without the program: on the rows of
-full_examples.txt."""
+full_examples.txt, and of image_examples.txt, whose plots have images."""
 
 import os
 import re
@@ -13,6 +13,7 @@ from reference.plotter import BLACK, COLOURS, Refused
 from shared import HERE, assert_nothing, read_bytes
 
 ROWS = os.path.join(HERE, "full_examples.txt")
+IMAGE_ROWS = os.path.join(HERE, "image_examples.txt")
 USUAL = {"profile": "full", "width": "1000", "height": "1000"}
 REFUSALS = {"3": "off-range", "4": "too-many-strokes", "12": "too-many-pixels"}
 # The rule that refuses only a picture.
@@ -24,10 +25,10 @@ PIXEL_ROWS = re.compile(r"rows? (\d+)(?: to (\d+))?: ([^,]+)(?:, |$)")
 PIXEL_COLUMNS = re.compile(r"(\d+)(?:-(\d+))?(?:p(\d+))?(?:c(\w{6}))?")
 
 
-def rows():
+def rows(path=ROWS):
     """Each row: its name, and the values of each of its keys."""
     found = []
-    for line in read_bytes(ROWS).decode().splitlines():
+    for line in read_bytes(path).decode().splitlines():
         if line.startswith("    "):
             key, _, value = line.strip().partition(" ")
             found[-1][1].setdefault(key, []).append(value)
@@ -47,12 +48,12 @@ def options_of(keys):
     return {name: value for name, value in options.items() if (name, value) != ("profile", "core")}
 
 
-def drawn(plot, options):
-    """What a plot draws; of a refusal its text."""
+def drawn(plot, options, has_images=False):
+    """What a plot draws, which may have images; of a refusal its text."""
     page = Page(*(int(options.get(name, 0)) for name in ("width", "height", "left", "below")))
     sheet = int(options.get("sheet", 1)) if options.get("profile") == "full" else None
     try:
-        return draw(plot, page, sheet, characters=options.get("characters"))
+        return draw(plot, page, sheet, characters=options.get("characters"), has_images=has_images)
     except Refused as refusal:
         return str(refusal)
 
@@ -109,11 +110,11 @@ def strokes_of(keys):
     return listed
 
 
-def differences(keys):
-    """What is not as a row says."""
+def differences(keys, has_images=False):
+    """What is not as a row says, whose plot may have images."""
     options = options_of(keys)
     plot = plot_of(keys["plot"][0])
-    got = drawn(plot, options)
+    got = drawn(plot, options, has_images)
     if "refused" in keys or isinstance(got, str):
         rule, _, at = keys.get("refused", [""])[0].partition(" at ")
         if rule == OF_PICTURES:
@@ -121,9 +122,11 @@ def differences(keys):
         wanted = {"refusal": messages.text(REFUSALS[rule], at) if rule in REFUSALS else "nothing is refused"}
         found = {"refusal": got if isinstance(got, str) else "nothing is refused"}
     else:
-        wanted, found = wanted_of(keys, options), found_of(keys, got, answer("report", options, plot))
+        wanted, found = wanted_of(keys, options), found_of(keys, got, answer("report", options, plot, has_images))
         if "pixels" in keys:
-            found["pixels"] = answer("marks", marks_case(keys), plot).output.decode().splitlines()
+            found["pixels"] = answer("marks", marks_case(keys), plot, has_images).output.decode().splitlines()
+        if "black" in keys:
+            found["black"] = blacks_in(answer("pbm", marks_case(keys), plot, has_images).output)
     for name in wanted:
         if wanted[name] != found[name]:
             yield f"{name}: {found[name]} instead of {wanted[name]}"
@@ -158,7 +161,19 @@ def wanted_of(keys, options):
         wanted["report"] = keys["report"]
     if "pixels" in keys:
         wanted["pixels"] = marks_of(keys["pixels"])
+    if "black" in keys:
+        wanted["black"] = [tuple(map(int, mark.split()[:2])) for mark in marks_of(keys["black"])]
     return wanted
+
+
+def blacks_in(bitmap):
+    """The row and the column of each black pixel of a PBM."""
+    header, size, *_ = bitmap.split(b"\n", 2)
+    columns, rows = map(int, size.split())
+    stride = (columns + 7) // 8
+    bits = bitmap[len(header) + len(size) + 2 :]
+    return [(row, column) for row in range(rows) for column in range(columns)
+            if bits[row * stride + column // 8] >> (7 - column % 8) & 1]
 
 
 def found_of(keys, got: Drawing, reported):
@@ -171,7 +186,7 @@ def found_of(keys, got: Drawing, reported):
         "areas": [spelled_area(area) for area in areas_in(got.shapes)],
         "count": len(strokes),
         "box": " ".join(line.partition(" box ")[2] for line in lines if " box " in line),
-        "report": [line for line in lines if line.startswith(("strokes ", "areas ", "pen "))],
+        "report": [line for line in lines if line.startswith(("strokes ", "areas ", "images ", "pen ", "image "))],
     }
     for at in ("0", "-1", *(value.partition(" ")[0] for value in keys.get("stroke", []))):
         if -len(strokes) <= int(at) < len(strokes):
@@ -184,6 +199,11 @@ def found_of(keys, got: Drawing, reported):
 @pytest.mark.parametrize("name, keys", rows(), ids=[name.replace(" ", "_") for name, _ in rows()])
 def test_examples(name, keys):
     assert_nothing(f"{name}: {difference}" for difference in differences(keys))
+
+
+@pytest.mark.parametrize("name, keys", rows(IMAGE_ROWS), ids=[name.replace(" ", "_") for name, _ in rows(IMAGE_ROWS)])
+def test_examples_of_images(name, keys):
+    assert_nothing(f"{name}: {difference}" for difference in differences(keys, has_images=True))
 
 
 def test_number_of_examples():

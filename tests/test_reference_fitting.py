@@ -260,7 +260,7 @@ def wrong_points(seed):
 def shape_at(latest_first, x, y):
     """How many shapes come after the one that the pixel shows, or None."""
     centre = ((2 * it + 1) * raster.PIXEL // 2 for it in (x, y))
-    found = raster.shown(latest_first, *centre)
+    found = raster.shown(latest_first, *centre, DOTS)
     return next((at for at, traced in enumerate(latest_first) if traced.shape is found), None)
 
 

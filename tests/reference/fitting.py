@@ -5,12 +5,11 @@ as none. A shape reaches the box of its ends, a stroke with its width around it.
 fill it. Boxes and windows are left, lower, right and upper edges, in grains; a page is in plotter units.
 """
 
-import itertools
 from typing import NamedTuple
 
 from .geometry import NO_WINDOW, Page, whole_page
 from .plotter import FARTHEST_END
-from .shapes import is_area, placed, strokes_of
+from .shapes import placed, strokes_of
 
 UNIT = 16
 MILLIMETRE = 640
@@ -50,9 +49,10 @@ def box_of(shape, page):
 
 
 def reach_of(shape):
-    """What a shape reaches: a stroke its ends with its width, an area all ends of its edges."""
-    half = 0 if is_area(shape) else (shape.width + 1) // 2
-    x, y = zip(*itertools.chain.from_iterable(shape.edges if is_area(shape) else [(shape.a, shape.b)]))
+    """What a shape reaches: a stroke its ends with its width, an area all ends of its edges, an image its corners."""
+    strokes = strokes_of(shape)
+    half = max((stroke.width + 1) // 2 for stroke in strokes)
+    x, y = zip(*((place for stroke in strokes for place in (stroke.a, stroke.b))))
     return min(x) - half, min(y) - half, max(x) + half, max(y) + half
 
 

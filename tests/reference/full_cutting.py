@@ -7,8 +7,10 @@ The core's items, and those of further instructions. An item of the kind `known`
 import re
 
 from . import cutting
-from .cutting import MILLION, SKIPPED, BadFrom, Item, rounded
+from .cutting import END_OF_TEXT, MILLION, SKIPPED, BadFrom, Item, rounded
+from .escapes import escape
 from .full_settings import FullSettings
+from .images import is_rtl_after
 
 # Instructions whose numbers are not read.
 WITHOUT_NUMBERS = "PG AF AH NR FR BP PB SS SA".split()
@@ -23,6 +25,7 @@ WITHOUT_EFFECT = """
 """.split()
 # A comment: a quoted text if one comes first, and all up to its `;`.
 COMMENT = re.compile(rb'[ \t\r\n]*(?:"[^"]*(?:"|\Z))?[^;]*;?')
+ESC, FORM_FEED = 27, 12
 BLANKS = re.compile(rb"[ \t\r\n]*")
 
 
@@ -30,9 +33,42 @@ class Printed(int):
     """A terminator that is the last byte of its text, too."""
 
 
-def items(plot):
-    """The items of a plot."""
-    return cutting.items(plot, instruction)
+def items(plot, has_images=False):
+    """The items of a plot; with escapes of images, if it may have images."""
+    return items_with_images(plot) if has_images else cutting.items(plot, instruction)
+
+
+def items_with_images(plot):
+    """The items of a plot. An escape is one of the kind `escape`, with its commands, and a form feed between images one of the
+    kind `page`."""
+    place, terminator, is_rtl = 0, END_OF_TEXT, False
+    while place < len(plot):
+        found = escape(plot, place) if plot[place] == ESC else None
+        if found:
+            commands, end = found
+            yield Item(place, "ESC", "escape", commands)
+            for command in commands:
+                is_rtl = is_rtl_after(command, plot, end, is_rtl)
+            place = end
+        elif is_rtl:
+            if plot[place] == FORM_FEED:
+                yield Item(place, "", "page")
+            place += 1
+        else:
+            item, place = next_item(plot, place, terminator)
+            if item:
+                terminator = cutting.terminator_after(item, terminator)
+                yield item
+
+
+def next_item(plot, place, terminator):
+    """The item at a place where no escape is, or None if what is there is silent; and the place after it."""
+    silent = cutting.SILENT.match(plot, place)
+    if silent:
+        return None, silent.end()
+    if cutting.MNEMONIC.match(plot, place):
+        return instruction(plot, place, terminator)
+    return Item(place, "", "stray", plot[place]), place + 1
 
 
 def instruction(plot, at, terminator):

@@ -18,7 +18,8 @@ from .full_lettering import IN_THE_MIDDLE
 from .full_settings import (
     CROSS_HATCHING, HATCHING, MOST_TICKS, SHADING, SOLID, TICKS_OF_A_GRAIN, FullSettings,
 )
-from .geometry import sign, turned, turned_about, turns
+from .geometry import sign, turned, turned_about, turns, whole_page
+from .images import Rtl, form_of
 from .labels import rows_of
 from .plotter import FARTHEST_END, LONGEST_PLOT, MOST_STROKES, USUAL_WIDTH, Bad, Refused, Stroke, listed, whole
 from .polygons import Buffer
@@ -28,22 +29,23 @@ BAD_IN_POLYGONS = "EA ER LB PB CP XT YT EP FP RA RR EW WG".split()
 TICKS_OF_A_UNIT = 16 * TICKS_OF_A_GRAIN
 
 
-def draw(plot, page, carousel=EMPTY, most=MOST_STROKES, characters=None):
+def draw(plot, page, carousel=EMPTY, most=MOST_STROKES, characters=None, has_images=False):
     """The shapes of all sheets and the notes of a plot; it is refused if it has more strokes and edges than most."""
-    plotter = after(plot, page, carousel, most, characters)
+    plotter = after(plot, page, carousel, most, characters, has_images)
     return plotter.shapes_drawn(), plotter.notes
 
 
-def after(plot, page, carousel=EMPTY, most=MOST_STROKES, characters=None):
-    """The plotter after a plot."""
+def after(plot, page, carousel=EMPTY, most=MOST_STROKES, characters=None, has_images=False):
+    """The plotter after a plot, which may have images."""
     if len(plot) > LONGEST_PLOT:
         raise Refused(messages.text("too-long"))
     plotter = FullPlotter(page, carousel, most)
     plotter.characters = characters
-    for item in items(plot):
+    for item in items(plot, has_images):
         plotter.obey(item)
         if plotter.has_too_much():
             raise Refused(messages.text("too-many-strokes", item.at))
+    plotter.rtl.close()
     return plotter
 
 
@@ -72,6 +74,7 @@ class FullPlotter(FullSettings):
         self.parts = []  # what is drawn: each has shapes
         self.sum = 0  # of strokes, and of what counts as strokes: edges of areas, places that are filled or edged, and texts of PB
         self.labels, self.label = [], None  # the lines of each label that has strokes, and which one is written now
+        self.rtl = Rtl(whole_page(page), self.add_image)
         super().__init__(page, carousel)
 
     def shapes_drawn(self):
@@ -90,11 +93,53 @@ class FullPlotter(FullSettings):
                 self.note(item.at, "open", item.code)
         elif item.kind in ("byte", "text"):
             getattr(self, item.code)(item.has)
+        elif item.kind == "escape":
+            self.escape(item.has)
+        elif item.kind == "page":
+            self.end_page()
         elif item.kind != "known":
             super().obey(item)
 
     def has_too_much(self):
         return max(self.sum, self.buffer.size) > self.most
+
+    # Images
+
+    def escape(self, commands):
+        """Does what the commands of an escape ask for, with one note at most."""
+        self.rtl.at = self.at
+        notes = [self.command(command) for command in commands]
+        for kind in ("bad", "skipped"):
+            if kind in notes:
+                self.note(self.at, kind, "ESC")
+                return
+
+    def command(self, command):
+        form = form_of(command)
+        if form:
+            self.rtl.close()
+        if form == "reset":
+            self.rtl.reset()
+        elif form == "A" and command.rounded() == 1:
+            self.rtl.place = self.place
+        elif form == "B" and command.rounded() == 1:
+            self.place = self.margin = self.in_range(self.rtl.place)
+            self.recompute()
+        elif (command.group, command.letter) == ("&l", "H") and command.rounded() == 0:
+            self.end_page()
+        elif not form:
+            return self.rtl.obey(command)
+        return None
+
+    def end_page(self):
+        """Ends the sheet between images."""
+        self.rtl.close()
+        self.PG([])
+        self.rtl.place = (0, 0)
+
+    def add_image(self, image):
+        self.parts.append([image._replace(sheet=self.sheet, labels=len(self.labels))])
+        self.is_sheet_empty = False
 
     # Ink, lines and reaches
 

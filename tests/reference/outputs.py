@@ -13,9 +13,10 @@ from .dxf import drawing_of
 from .dxf_groups import bytes_of
 from .fitting import BLANK, LONGEST, LONGEST_OF_CORE, TOO_LARGE, UNIT, fitted, is_off
 from .geometry import Page
+from .images import Dot
 from .labels import groups_of, rows_moved, texts_of
 from .plotter import Refused
-from .shapes import is_area
+from .shapes import is_area, is_image
 from .turning import Turn
 from .vectors import Document, shapes_of, spans_of
 
@@ -42,8 +43,8 @@ def fault(status, text):
     return Answer(status, b"", f"plotraster: {text}\n")
 
 
-def answer(command, options, plot):
-    """What the program answers."""
+def answer(command, options, plot, has_images=False):
+    """What the program answers; the plot may have images."""
     try:
         request = request_of(command, options)
     except Mistake as mistake:
@@ -51,7 +52,7 @@ def answer(command, options, plot):
     if request.form == "pcl" and request.dots not in DOTS_OF_PCL:
         return fault(2, messages.text("resolution"))
     try:
-        shown = shown_by(request, plot)
+        shown = shown_by(request, plot, has_images)
     except Refused as refusal:
         return fault(refusal.status, refusal)
     if request.form == "report":
@@ -70,11 +71,11 @@ class Drawing(NamedTuple):
     labels: list = ()
 
 
-def draw(plot, page, sheet, carousel=EMPTY, characters=None):
+def draw(plot, page, sheet, carousel=EMPTY, characters=None, has_images=False):
     """What a plot draws in the profile core, if there is no sheet, or in full; those of all sheets are 0's."""
     if sheet is None:
         return Drawing(*plotter.draw(plot, page, carousel))
-    plotted = full_plotter.after(plot, page, carousel, characters=characters)
+    plotted = full_plotter.after(plot, page, carousel, characters=characters, has_images=has_images)
     shapes = plotted.shapes_drawn()
     sheets = max((shape.sheet for shape in shapes), default=0)
     shapes = [shape for shape in shapes if sheet in (0, EACH, shape.sheet)]
@@ -93,16 +94,16 @@ class Shown(NamedTuple):
     lines: int
 
 
-def shown_by(request, plot):
+def shown_by(request, plot, has_images=False):
     """What a request shows of a plot."""
     page, why = request.page, None
     if request.is_page_asked:
         asked = asked_page(plot, request)
         page, why = asked or page, None if asked else "no-size"
-    drawing = draw(plot, page, request.sheet, request.carousel, request.characters)
+    drawing = draw(plot, page, request.sheet, request.carousel, request.characters, has_images)
     shapes, lines = drawing.shapes, len(drawing.shapes)
     if request.form != "report":
-        shapes = [shape for shape in shapes if shape.pen in request.pens]
+        shapes = [shape for shape in shapes if shape.pen in request.pens or is_image(shape)]
     if request.margin is not None:
         given = page
         page, shapes, why = fitted(shapes, given, request.margin, longest_in(request))
@@ -286,7 +287,15 @@ def marks(row, cells):
 def bits(_, cells):
     """Eight pixels a byte, the leftmost one in the highest bit."""
     cells = cells + [None] * (-len(cells) % 8)
-    return bytes(sum(128 >> i for i in range(8) if cells[at + i]) for at in range(0, len(cells), 8))
+    return bytes(sum(128 >> i for i in range(8) if is_black(cells[at + i])) for at in range(0, len(cells), 8))
+
+
+def is_black(cell):
+    """Whether a pixel is black: any line is, and a dot of an image is if it is dark."""
+    if not cell or not isinstance(cell, Dot):
+        return bool(cell)
+    red, green, blue = cell.colour
+    return 299 * red + 587 * green + 114 * blue < 128_000
 
 
 def colours(_, cells):
@@ -310,26 +319,37 @@ FORMS = {
 
 
 def report(drawing, page):
-    """The lines of a report: the page, in full the sheets, the strokes, and the areas if there are any, of all pens and of each
-    pen, and the notes."""
+    """The lines of a report: the page, in full the sheets, the strokes, and the areas and the images if there are any, of all pens
+    and of each pen, each image, and the notes."""
     shapes, notes, sheets, *_ = drawing
     lines = ["page %d %d %d %d" % page]
     lines += [] if sheets is None else [f"sheets {sheets}"]
     lines.append(f"strokes {len(strokes_in(shapes))}")
     lines += [f"areas {len(areas_in(shapes))}"] if areas_in(shapes) else []
+    lines += [f"images {len(images_in(shapes))}"] if images_in(shapes) else []
     for pen in sorted({shape.pen for shape in shapes}):
         own = [shape for shape in shapes if shape.pen == pen]
         lines += [f"pen {pen} {of_own}" for of_own in (*of_strokes(strokes_in(own)), *of_areas(areas_in(own)))]
+    lines += [of_image(image) for image in images_in(shapes)]
     lines += [f"note {note.at} {note.kind} {note.has}" for note in notes]
     return "".join(line + "\n" for line in lines).encode()
 
 
 def strokes_in(shapes):
-    return [shape for shape in shapes if not is_area(shape)]
+    return [shape for shape in shapes if not is_area(shape) and not is_image(shape)]
 
 
 def areas_in(shapes):
     return [shape for shape in shapes if is_area(shape)]
+
+
+def images_in(shapes):
+    return [shape for shape in shapes if is_image(shape)]
+
+
+def of_image(image):
+    """What a report says of an image: its columns, its rows, its resolution and its box."""
+    return f"image {image.width} {len(image.rows)} {image.per_inch} {box_of([image.corner, image.far_corner()])}"
 
 
 def of_strokes(strokes):

@@ -8,7 +8,7 @@ from bisect import bisect_right
 from typing import NamedTuple
 
 from .fills import BY_ODD_COUNTS
-from .shapes import is_area, strokes_of
+from .shapes import is_area, is_image, strokes_of
 
 PIXEL = 16 * 1016
 
@@ -61,6 +61,8 @@ class Traced(NamedTuple):
 
 def traced(shape, dots):
     window = tuple(dots * length for length in shape.window)
+    if is_image(shape):
+        return Traced(shape, window, [])
     return Traced(shape, window, [line_of(stroke, dots) for stroke in strokes_of(shape)])
 
 
@@ -82,6 +84,10 @@ class Level(NamedTuple):
     places: list
     insides: list
 
+    def shown(self, x):
+        """The shape, if it covers the point at this height, or None."""
+        return self.shape if self.covers(x) else None
+
     def covers(self, x):
         """Whether the shape covers the point at this height."""
         if not self.left <= x <= self.right:
@@ -89,10 +95,26 @@ class Level(NamedTuple):
         return self.insides[bisect_right(self.places, x)] or any(line.covers(x, self.y) for line in self.lines)
 
 
-def levels(latest_first, y):
+class LevelOfImage(NamedTuple):
+    """What an image has at a height."""
+
+    image: object
+    left: int
+    right: int
+    y: int
+    dots: int
+
+    def shown(self, x):
+        """The dot that covers the point at this height, or None."""
+        return self.image.dot_at(x, self.y, self.dots) if self.left <= x <= self.right else None
+
+
+def levels(latest_first, y, dots):
     """What shapes have at a height, those that have something."""
     for shape, (left, bottom, right, top), lines in latest_first:
-        if bottom <= y <= top:
+        if bottom <= y <= top and is_image(shape):
+            yield LevelOfImage(shape, left, right, y, dots)
+        elif bottom <= y <= top:
             near = [line for line in lines if line.is_near(y)]
             places, insides = insides_of(shape, lines, y) if is_area(shape) else ([], [False])
             if near or any(insides):
@@ -111,21 +133,21 @@ def insides_of(area, edges, y):
     return [x for x, _ in passed], insides
 
 
-def shown(latest_first, x, y):
-    """The last shape that covers a point, or None."""
-    return shown_at(levels(latest_first, y), x)
+def shown(latest_first, x, y, dots):
+    """The last shape that covers a point, or the dot of an image, or None."""
+    return shown_at(levels(latest_first, y, dots), x)
 
 
 def shown_at(latest_first, x):
-    """The last shape that covers a point of a height, or None."""
-    return next((level.shape for level in latest_first if level.covers(x)), None)
+    """The last shape that covers a point of a height, or the dot of an image, or None."""
+    return next(filter(None, (level.shown(x) for level in latest_first)), None)
 
 
 def rows(shapes, page, dots, pens, first):
     """Each row from the first on: the shape that each of its pixels shows at its centre, or None."""
-    latest_first = [traced(shape, dots) for shape in reversed(shapes) if shape.pen in pens]
+    latest_first = [traced(shape, dots) for shape in reversed(shapes) if shape.pen in pens or is_image(shape)]
     top = 16 * page.height * dots
     columns = range(count(page.width, dots))
     for row in range(first, count(page.height, dots)):
-        found = list(levels(latest_first, top - (2 * row + 1) * PIXEL // 2))
+        found = list(levels(latest_first, top - (2 * row + 1) * PIXEL // 2, dots))
         yield row, [shown_at(found, (2 * column + 1) * PIXEL // 2) for column in columns]

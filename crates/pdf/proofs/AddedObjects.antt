@@ -103,9 +103,9 @@ end_counted os counts at at' is e =
     ∙ ap (λ (k : ℕ). table_text os ++ (codes "trailer\n<</Size " ++ decimal (length os + 1) ++ codes "/Root 1 0 R/Info 2 0 R>>\nstartxref\n" ++ decimal k ++ codes "\n%%EOF\n")) e
 
 -- the header, objects and what comes after them were put into a new text
-pub document_added : {K : Type 0} {state : K → SinkState} {a b c d : Text K} {o p counts : List ℕ} {unit : PageUnit} {all : List (List ℕ)} → count_of a ≡ 0
+pub document_added : {K : Type 0} {state : K → SinkState} {a b c d : Text K} {o p counts : List ℕ} (unit : PageUnit) {all : List (List ℕ)} → count_of a ≡ 0
     → Puts state a b (header_text unit) → Adds state b c o p 0 all → counts ≡ take (length all) p → Puts state c d (end_text counts (count_of c)) → Puts state a d (document_text unit all)
-document_added {a = a} {b = b} {c = c} {p = p} {counts = counts} {unit = unit} {all = all} new put added is last =
+document_added {a = a} {b = b} {c = c} {p = p} {counts = counts} unit {all = all} new put added is last =
     let header = header_text unit in
     let os = offsets_of (length header) 0 all in
     let at : counted (count_of b) ≡ counted (length header) = omega (arith, new, put.count) in

@@ -174,7 +174,7 @@ pdf_put {s = s} layers fonts all version title page set strokes areas ends label
     let added = objects_added version title page pens rows ends streams first second third fourth layers_is fonts_is in
     let count : all ≡ length bodies =
     omega (arith, all_is, fonts_is, objects_size version title page pens rows ends (sheets strokes 0 ends) (page_areas areas 0 ends) (sheet_labels labels 0 ends) streams set are (sheets_size strokes 0 ends)) in
-    puts_as (document_added {unit = unit_of page} {all = bodies} new head added (ap (λ (k : ℕ). take k s) count) end)
+    puts_as (document_added (unit_of page) {all = bodies} new head added (ap (λ (k : ℕ). take k s) count) end)
     (ap (λ (z : List ℕ). pdf_bytes version title page z rows ends streams) pens_are
     ∙ ap (λ (z : List ℕ). pdf_bytes version title page (pens_drawn set strokes) z ends streams) rows_are)
 
