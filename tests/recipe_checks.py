@@ -224,6 +224,20 @@ def plan_as_dxf(made):
         yield f"lines of {parts} places"
 
 
+def cut_as_dxf(made):
+    """The same without texts, in which the letters of the label are lines of its pen."""
+    data, whole = made.read("cut.dxf"), read_dxf(made.run("draw", "--form", "dxf", "plan.plt"))
+    document = read_dxf(data)
+    yield from said_of_dxf(data)
+    if data != made.run("dxf", *AS_DRAW, "--labels", "strokes", "plan.plt"):
+        yield "another document"
+    if document != document.without_texts() or document[:3] != whole[:3]:
+        yield f"a page of {document.width} by {document.height} units with {document.texts()}"
+    others = [it for it in document.entities if it.layer.pen != 8]
+    if others != whole.without_texts().entities or len(document.entities) < len(others) + 8:
+        yield f"{len(document.entities)} lines, of which {len(others)} are no letters'"
+
+
 def tiff(made):
     if netpbm(["tifftopnm", made.path("plan.tiff")], None) != made.run("pbm", "--dots", "400", "plan.plt"):
         yield "another bitmap"
@@ -521,7 +535,7 @@ CHECKS = {
         "PNG, in colour": [Check(drawn_png, PNG), Check(preview, PNG)],
         "PNG, black and white": [Check(black_png, PNG)],
         "PDF and SVG": [Check(drawn_pdf), Check(found, ("pdfgrep",), {}, numbered), Check(pen_as_svg)],
-        "A plot back into CAD": [Check(plan_as_dxf, ("ezdxf",))],
+        "A plot back into CAD": [Check(plan_as_dxf, ("ezdxf",)), Check(cut_as_dxf, ("ezdxf",))],
         "A large plot on small paper": [Check(printed_pdf)],
         "Plots by CUPS": [Check(printed_plot)],
         "TIFF, true to size": [Check(tiff, ("pamtotiff", "tifftopnm"))],
