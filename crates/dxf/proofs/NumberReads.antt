@@ -8,7 +8,7 @@ use Rattle.std.specs.List.{list_all, list_any}
 use Rattle.std.specs.Option.{option_map}
 use Rattle.pieces.proofs.Scans.{Lacks, PassesDigits, decimal_lacks, lacks_both, number_read, split_last, split_more}
 use Rattle.pieces.specs.Fractions.{digit}
-use Rattle.pieces.specs.Readings.{given, number, ◌>>=◌}
+use Rattle.pieces.specs.Readings.{given, ◌>>=◌}
 use Rattle.dxf.specs.Groups.{after_decimal, decimals, fraction, sign_text, signed_text, size_text}
 use Rattle.dxf.specs.Reader.{are_decimals, signed, size, sized, weighed}
 

@@ -13,7 +13,7 @@ use Rattle.stroke_runs.proofs.ShapeCuts.{cut_shapes, first_shapes, last_shapes, 
 use Rattle.stroke_runs.specs.Drawn.{begins_drawn, drawn_shapes}
 use Rattle.stroke_runs.specs.Sheets.{between, shapes_between, sheet_areas}
 use Rattle.svg.specs.Sheets.{Sheet, labelled_after, labelled_sheets, sheet_between}
-use Rattle.dxf.specs.Chains.{Break, Chain, Following, Mark, Seen, area_marks, beginning, chains, edge_marks, following, following_next, going_on, goes_on, mark_if, marks, piece_of, piece_on, shape_marks, stroke_marks}
+use Rattle.dxf.specs.Chains.{Break, Chain, Following, Mark, Seen, area_marks, beginning, chains, edge_marks, following, following_next, going_on, goes_on, mark_if, marks, piece_of, shape_marks, stroke_marks}
 use Rattle.dxf.specs.Cuts.{is_whole, line_of}
 use Rattle.dxf.specs.Outlines.{AreOutlined, EndsWhereItBegan, IsOutline, strokes_in}
 use Rattle.dxf.specs.Layers.{layers_of}

@@ -12,7 +12,7 @@ use Rattle.dxf.specs.Forms.{form_of}
 use Rattle.dxf.specs.Groups.{group, signed_group, signed_text, size_text}
 use Rattle.dxf.specs.Layers.{colour_of}
 use Rattle.dxf.specs.Letters.{fit_groups, form_groups, has_letters, leaning_group, letter, letters_text, lines_text, mirrored_group, text_entity}
-use Rattle.dxf.specs.Reader.{Group, Letters, Look, TextForm, letters, look, mirrored_by, mirrored_in, oblique_in, point, read_text, second_point, size, text_form, value}
+use Rattle.dxf.specs.Reader.{Group, Letters, Look, TextForm, letters, mirrored_by, mirrored_in, oblique_in, point, read_text, second_point, size, text_form, value}
 use Rattle.dxf.specs.Readings.{letters_of, line_entities, look_of, oblique_of, text_form_of}
 use Rattle.dxf.specs.Readable.{IsReadable, IsSmallForm}
 use Rattle.dxf.specs.declared.cuts.Point.{Point}

@@ -14,7 +14,7 @@ use Rattle.dxf.proofs.letters.put_entity.Goals as goal
 pub returns : goal.returns
 returns g c =
     let line = c.line.view_is in
-    let form = c.form_of-form.ensures in
+    let form = c.form_of-form.ensures.value in
     let layer = puts_as c.put_layer_groups.ensures.puts (ap (λ (s : Segment). layer_groups c.args.layers.now s.pen s.colour) c.stroke.view_is) in
     let point = puts_as c.put_point.ensures.puts
     (ap (λ (p : Point). point_text 10 20 p) c.point_at.ensures ∙ ap (λ (l : LineShape). point_text 10 20 (point_of l.start.x l.start.y)) line) in
