@@ -1,0 +1,3 @@
+mod Examples
+pub mod Digits
+pub mod Chains

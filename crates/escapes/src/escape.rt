@@ -1,0 +1,156 @@
+//! Escapes, a command at a time.
+ghost use Rattle.std.specs.Prelude.{◌≡◌, ◌<◌, ◌≤◌, [], ◌∷◌, length, drop, slice_index, MatchOption, IfSome, Some, None, if◌then◌else◌};
+ghost use Rattle.escapes.specs.Escapes.{alone, chain, minus_length, language, escape};
+ghost use Rattle.hpgl_text.specs.Bytes.{begins_with};
+ghost use Rattle.escapes.specs.Views.{all_of};
+
+use crate::bytes::{after, begins_group, byte_at, is_large_letter, is_small_letter, stands_alone};
+use crate::command::{Command, Sign, finish};
+use crate::value::{first_integer, first_value};
+
+/// A group of commands that goes on.
+#[derive(Clone, Copy)]
+pub struct Chain {
+    pub group: u8,
+    pub parameter: Option<u8>,
+}
+
+/// A command of an escape, and what follows it.
+#[derive(Clone, Copy)]
+pub struct Step<'a> {
+    /// The command.
+    pub command: Command<'a>,
+    /// The group, if it goes on.
+    pub more: Option<Chain>,
+    /// The text after the command and its data.
+    pub rest: &'a [u8],
+}
+
+/// The first command of an escape, from the byte after the ESC on. None if the ESC is a stray, or if a device control follows
+/// (`.`).
+pub fn first_step<'a>(text: &'a [u8]) -> Option<Step<'a>>
+    ensures value { MatchOption result (escape text.now ≡ None) (λ s. escape text.now ≡ Some (all_of s)) }
+    ensures shorter { IfSome result (λ s. length s.rest.now < length text.now) }
+{
+    let first = byte_at(text, 0);
+    if stands_alone(first) {
+        return Some(alone(first, after(text, 1)));
+    }
+    if first == b'%' {
+        return first_language(after(text, 1));
+    }
+    if !begins_group(first) {
+        return None;
+    }
+    let parameter = byte_at(text, 1);
+    if is_small_letter(parameter) {
+        return next_step(
+            Chain {
+                group: first,
+                parameter: Some(parameter),
+            },
+            after(text, 2),
+        );
+    }
+    next_step(
+        Chain {
+            group: first,
+            parameter: None,
+        },
+        after(text, 1),
+    )
+}
+
+/// The next command of a group that goes on. None if it breaks off, and then the escape ends where the text begins.
+pub fn next_step<'a>(of: Chain, text: &'a [u8]) -> Option<Step<'a>>
+    ensures value { MatchOption result (chain (length text.now) of.group of.parameter text.now ≡ ([], text.now))
+        (λ s. chain (length text.now) of.group of.parameter text.now ≡ all_of s) }
+    ensures shorter { IfSome result (λ s. length s.rest.now < length text.now) }
+{
+    let value = first_value(text);
+    let letter = byte_at(value.rest, 0);
+    let goes_on = is_small_letter(letter);
+    if !goes_on && !is_large_letter(letter) {
+        return None;
+    }
+    let done = finish(
+        Some(of.group),
+        of.parameter,
+        value.sign,
+        value.millionths,
+        value.rest,
+    );
+    Some(Step {
+        command: done.command,
+        more: more_of(goes_on, of),
+        rest: done.rest,
+    })
+}
+
+// The group, if it goes on.
+fn more_of(goes_on: bool, of: Chain) -> Option<Chain>
+    ensures { result ≡ (if goes_on then Some of else None) }
+{
+    if goes_on { Some(of) } else { None }
+}
+
+// A byte that is an escape alone.
+fn alone<'a>(letter: u8, rest: &'a [u8]) -> Step<'a>
+    ensures value { all_of result ≡ (alone letter ∷ [], rest.now) }
+    ensures rest { result.rest.now ≡ rest.now }
+{
+    Step {
+        command: Command {
+            group: None,
+            parameter: None,
+            sign: Sign::Unsigned,
+            millionths: 0,
+            letter,
+            input: &[],
+        },
+        more: None,
+        rest,
+    }
+}
+
+// A change between languages, from the byte after the % on.
+fn first_language<'a>(text: &'a [u8]) -> Option<Step<'a>>
+    ensures value { MatchOption result (language text.now ≡ None) (λ s. language text.now ≡ Some (all_of s)) }
+    ensures shorter { IfSome result (λ s. length s.rest.now < length text.now) }
+{
+    let integer = first_integer(after(text, minus_count(text)));
+    let letter = byte_at(integer.rest, 0);
+    if !letter.is_ascii_alphabetic() && letter != b'@' {
+        return None;
+    }
+    let done = finish(
+        Some(b'%'),
+        None,
+        minus_sign(text),
+        integer.value * 1_000_000,
+        integer.rest,
+    );
+    Some(Step {
+        command: done.command,
+        more: None,
+        rest: done.rest,
+    })
+}
+
+// How many bytes a minus sign takes that the text begins with.
+fn minus_count(text: &[u8]) -> usize
+    ensures { result ≡ minus_length text.now }
+{
+    if byte_at(text, 0) == b'-' { 1 } else { 0 }
+}
+
+// The sign of a number that may begin with a minus sign.
+fn minus_sign(text: &[u8]) -> Sign
+    ensures { result ≡ (if begins_with "-" text.now then Minus else Unsigned) }
+{
+    if byte_at(text, 0) == b'-' {
+        Sign::Minus
+    } else {
+        Sign::Unsigned
+    }
+}
