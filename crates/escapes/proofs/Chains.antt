@@ -1,7 +1,7 @@
 -- A chain of commands, one command at a time.
-use Rattle.std.proofs.Common.{◌≡◌, ℕ, zero, suc, ◌+◌, ◌-◌, ◌<◌, ◌≤◌, Bool, true, false, if◌then◌else◌, List, [], ◌∷◌, length, drop, get_or, Option, Some, None, refl, sym, ap, ap₂, ◌∙◌, arith, length-drop}
+use Rattle.std.proofs.Common.{◌≡◌, ℕ, zero, suc, ◌<◌, ◌≤◌, Bool, true, false, if◌then◌else◌, List, [], ◌∷◌, length, drop, get_or, Option, Some, refl, sym, ap, ◌∙◌, arith, length-drop}
 use Rattle.std.proofs.lemmas.Bool.{true≢false}
-use Rattle.hpgl_text.specs.Numbers.{digits, integer_part, fraction, decimals, point_length, sign_length, unsigned}
+use Rattle.hpgl_text.specs.Numbers.{integer_part, fraction, decimals, point_length, sign_length, unsigned}
 use Rattle.escapes.specs.Commands.{Said, is_small, is_large, capital, data_count, sign_of, millionths_of, after_value, finished}
 use Rattle.escapes.specs.Escapes.{chain}
 

@@ -1,5 +1,5 @@
 -- Escapes.
-use Rattle.std.proofs.Common.{◌≡◌, ◌+◌, ℕ, List, [], ◌∷◌, ◌++◌, map, length, Option, Some, None, refl}
+use Rattle.std.proofs.Common.{◌≡◌, ℕ, List, [], ◌∷◌, map, Option, Some, None, refl}
 use Rattle.std.specs.Prelude.{codes}
 use Rattle.escapes.specs.declared.command.Sign.{Sign}
 use Rattle.escapes.specs.declared.command.Sign.TheVariants.{Unsigned, Plus, Minus}

@@ -1,5 +1,5 @@
 -- Commands of HP RTL and PCL 5 within a plot: a value and a letter, which data may follow.
-use Rattle.std.specs.Prelude.{ℕ, ◌+◌, ◌-◌, ◌*◌, ◌/◌, ◌^◌, min, Bool, true, false, ◌&&◌, ◌||◌, ◌==◌, nat_le, List, length, take, drop, slice_index, Option, Some, None, if◌then◌else◌}
+use Rattle.std.specs.Prelude.{ℕ, ◌+◌, ◌-◌, ◌*◌, ◌/◌, ◌^◌, min, Bool, false, ◌&&◌, ◌||◌, ◌==◌, nat_le, List, length, take, drop, slice_index, Option, Some, None, if◌then◌else◌}
 use Rattle.hpgl_text.specs.Bytes.{byte, begins_with}
 use Rattle.hpgl_text.specs.Numbers.{digits_sum, decimals_sum, integer_part, fraction, decimals, point_length}
 use Rattle.escapes.specs.declared.command.Sign.{Sign}

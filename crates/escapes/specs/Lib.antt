@@ -1,4 +1,4 @@
--- What a reader must believe: commands, and the escapes that are made of them.
+-- What a reader must believe: commands, the escapes that are made of them, and what holds of these.
 pub mod Commands
 pub mod Escapes
 -- What contracts of the code need: what its types stand for.

@@ -2,6 +2,7 @@
 ghost use Rattle.std.specs.Prelude.{◌≡◌, ◌<◌, ◌≤◌, [], ◌∷◌, length, drop, slice_index, MatchOption, IfSome, Some, None, if◌then◌else◌};
 ghost use Rattle.escapes.specs.Escapes.{alone, chain, minus_length, language, escape};
 ghost use Rattle.hpgl_text.specs.Bytes.{begins_with};
+ghost use Rattle.escapes.specs.declared.command.Sign.TheVariants.{Unsigned, Minus};
 ghost use Rattle.escapes.specs.Views.{all_of};
 
 use crate::bytes::{after, begins_group, byte_at, is_large_letter, is_small_letter, stands_alone};

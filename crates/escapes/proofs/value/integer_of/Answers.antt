@@ -1,4 +1,4 @@
-use Rattle.std.proofs.Common.{◌<◌, length, arith}
+use Rattle.std.proofs.Common.{arith}
 use Rattle.escapes.proofs.Digits.{digits_sum_more}
 use Rattle.escapes.proofs.value.integer_of.Goals as goal
 

@@ -1,4 +1,4 @@
-use Rattle.std.proofs.Common.{◌≡◌, ◌≤◌, take}
+use Rattle.std.proofs.Common.{◌≡◌, take}
 use Rattle.escapes.specs.Commands.{capped}
 use Rattle.escapes.proofs.value.integer_of.Given as goal
 
