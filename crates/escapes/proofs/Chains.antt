@@ -6,16 +6,16 @@ use Rattle.escapes.specs.Commands.{Said, is_small, is_large, capital, data_count
 use Rattle.escapes.specs.Escapes.{chain}
 
 -- a letter is a byte that is there
-some_small : (text : List ℕ) → is_small (get_or text 0 0) ≡ true → 0 < length text
+pub some_small : (text : List ℕ) → is_small (get_or text 0 0) ≡ true → 0 < length text
 some_small [] e = absurd (true≢false (sym e))
 some_small (b ∷ text) e = omega arith
 
-some_large : (text : List ℕ) → is_large (get_or text 0 0) ≡ true → 0 < length text
+pub some_large : (text : List ℕ) → is_large (get_or text 0 0) ≡ true → 0 < length text
 some_large [] e = absurd (true≢false (sym e))
 some_large (b ∷ text) e = omega arith
 
 -- a value takes no byte that is not there
-value_shorter : (text : List ℕ) → length (after_value text) ≤ length text
+pub value_shorter : (text : List ℕ) → length (after_value text) ≤ length text
 value_shorter text =
     omega (
       arith,

@@ -1,3 +1,4 @@
 mod Examples
 pub mod Digits
 pub mod Chains
+pub mod EscapeLaws

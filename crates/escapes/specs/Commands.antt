@@ -4,7 +4,7 @@ use Rattle.hpgl_text.specs.Bytes.{byte, begins_with}
 use Rattle.hpgl_text.specs.Numbers.{digits_sum, decimals_sum, integer_part, fraction, decimals, point_length}
 use Rattle.escapes.specs.declared.command.Sign.{Sign}
 use Rattle.escapes.specs.declared.command.Sign.TheVariants.{Unsigned, Plus, Minus}
-use Rattle.escapes.specs.declared.command.TheConstants.{GREATEST}
+use Rattle.escapes.specs.declared.command.TheConstants.{GREATEST_INTEGER}
 
 -- the byte that begins its group and the small letter after it, if they are there; its value in millionths, and the sign of it;
 -- its letter, as a capital; and its data
@@ -33,7 +33,7 @@ sign_of text = if begins_with "+" text then Plus else if begins_with "-" text th
 
 -- an integer part, which is at most the greatest
 abbrev pub capped : List ℕ → ℕ
-capped written = min (digits_sum written) GREATEST
+capped written = min (digits_sum written) GREATEST_INTEGER
 
 -- the value that a text begins with, without its sign: an integer part, and six decimals; 0 without digits
 abbrev pub millionths_of : List ℕ → ℕ

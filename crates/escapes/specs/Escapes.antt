@@ -1,5 +1,5 @@
 -- Escapes of HP RTL and PCL 5 within a plot: what follows an ESC. Device controls (ESC .) are none of them.
-use Rattle.std.specs.Prelude.{ℕ, zero, suc, ◌*◌, ◌^◌, Bool, ◌&&◌, ◌||◌, not, ◌==◌, nat_le, List, [], ◌∷◌, length, drop, slice_index, Option, Some, None, if◌then◌else◌}
+use Rattle.std.specs.Prelude.{ℕ, zero, suc, ◌-◌, ◌*◌, ◌^◌, Bool, ◌&&◌, ◌||◌, not, ◌==◌, nat_le, List, [], ◌∷◌, length, drop, slice_index, Option, Some, None, option_map, if◌then◌else◌}
 use Rattle.std.specs.Char.{is_ascii_alphabetic}
 use Rattle.hpgl_text.specs.Bytes.{byte, begins_with}
 use Rattle.hpgl_text.specs.Numbers.{digits}
@@ -60,3 +60,7 @@ escape text =
     if first == byte "%" then language (drop 1 text) else
     if is_group first then (if is_small (slice_index text 1) then grouped first (Some (slice_index text 1)) (drop 2 text) else grouped first None (drop 1 text)) else
     None
+
+-- how many bytes of the text an escape takes
+abbrev pub escape_length : List ℕ → Option ℕ
+escape_length text = option_map (λ found. length text - length found.1) (escape text)

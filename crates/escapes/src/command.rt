@@ -6,7 +6,7 @@ ghost use Rattle.escapes.specs.Views.{said};
 use crate::bytes::{after, before, is_small_letter};
 
 /// The greatest integer part of a value; a greater one counts as this.
-pub const GREATEST: u32 = 2_147_483_647;
+pub const GREATEST_INTEGER: u32 = 2_147_483_647;
 
 /// The sign that is written before a value.
 #[derive(Clone, Copy, PartialEq, Eq, Debug)]

@@ -1,6 +1,6 @@
 //! Escapes, a command at a time.
 ghost use Rattle.std.specs.Prelude.{◌≡◌, ◌<◌, ◌≤◌, [], ◌∷◌, length, drop, slice_index, MatchOption, IfSome, Some, None, if◌then◌else◌};
-ghost use Rattle.escapes.specs.Escapes.{alone, chain, minus_length, language, escape};
+ghost use Rattle.escapes.specs.Escapes.{alone, chain, minus_length, language, escape, escape_length};
 ghost use Rattle.hpgl_text.specs.Bytes.{begins_with};
 ghost use Rattle.escapes.specs.declared.command.Sign.TheVariants.{Unsigned, Minus};
 ghost use Rattle.escapes.specs.Views.{all_of};
@@ -86,6 +86,33 @@ pub fn next_step<'a>(of: Chain, text: &'a [u8]) -> Option<Step<'a>>
         more: more_of(goes_on, of),
         rest: done.rest,
     })
+}
+
+/// How many bytes an escape takes, from the byte after the ESC on. None if the ESC is a stray, or if a device control follows.
+pub fn escape_length(text: &[u8]) -> Option<usize>
+    ensures { result ≡ escape_length text.now }
+{
+    match first_step(text) {
+        None => None,
+        Some(first) => Some(text.len() - last_rest(first).len()),
+    }
+}
+
+// The text after the last command of an escape.
+fn last_rest<'a>(first: Step<'a>) -> &'a [u8]
+    ensures value { result.now ≡ (all_of first.entry).1 }
+    ensures within { length result.now ≤ length first.entry.rest.now }
+{
+    let mut rest = first.rest;
+    let mut more = first.more;
+    'commands: while let Some(group) = more {
+        let Some(next) = next_step(group, rest) else {
+            break;
+        };
+        rest = next.rest;
+        more = next.more;
+    }
+    rest
 }
 
 // The group, if it goes on.

@@ -4,7 +4,8 @@
 mod bytes;
 mod command;
 mod escape;
+pub mod laws;
 mod value;
 
-pub use command::{Command, GREATEST, Sign};
-pub use escape::{Chain, Step, first_step, next_step};
+pub use command::{Command, GREATEST_INTEGER, Sign};
+pub use escape::{Chain, Step, escape_length, first_step, next_step};

@@ -2,10 +2,10 @@
 ghost use Rattle.std.specs.Prelude.{◌≡◌, ◌*◌, ◌^◌, ◌<◌, ◌≤◌, length, drop};
 ghost use Rattle.hpgl_text.specs.Numbers.{digits, unsigned, digits_after_point, point_length, decimals_sum};
 ghost use Rattle.escapes.specs.Commands.{sign_of, capped, millionths_of, after_value};
-ghost use Rattle.escapes.specs.declared.command.TheConstants.{GREATEST};
+ghost use Rattle.escapes.specs.declared.command.TheConstants.{GREATEST_INTEGER};
 
 use crate::bytes::{after, byte_at, first_digits};
-use crate::command::{GREATEST, Sign};
+use crate::command::{GREATEST_INTEGER, Sign};
 
 /// The value that a text begins with, and what follows it.
 #[derive(Clone, Copy)]
@@ -68,7 +68,7 @@ fn after_sign(text: &[u8]) -> &[u8]
 pub fn first_integer<'a>(text: &'a [u8]) -> Digits<'a>
     ensures value { result.value ≡ capped (digits text.now) }
     ensures rest { result.rest.now ≡ drop (length (digits text.now)) text.now }
-    ensures small { result.value ≤ GREATEST }
+    ensures small { result.value ≤ GREATEST_INTEGER }
 {
     let digits = first_digits(text);
     Digits {
@@ -100,11 +100,13 @@ fn first_decimals<'a>(text: &'a [u8]) -> Digits<'a>
 // The number that digits write, or the greatest if it is greater.
 fn integer_of(digits: &[u8]) -> u64
     ensures value { result ≡ capped digits.now }
-    ensures small { result ≤ GREATEST }
+    ensures small { result ≤ GREATEST_INTEGER }
 {
     let mut value: u64 = 0;
     for digit in digits {
-        value = (value * 10 + u64::from((*digit).saturating_sub(b'0'))).min(u64::from(GREATEST));
+        value = (value * 10 + u64::from((*digit).saturating_sub(b'0'))).min(u64::from(
+            GREATEST_INTEGER,
+        ));
     }
     value
 }

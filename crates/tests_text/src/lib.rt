@@ -12,6 +12,8 @@ mod code_points;
 #[cfg(test)]
 mod colours;
 #[cfg(test)]
+mod escapes_cut;
+#[cfg(test)]
 mod further;
 #[cfg(test)]
 mod item_cases;
