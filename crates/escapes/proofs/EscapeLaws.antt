@@ -1,20 +1,18 @@
 -- What holds of escapes, a command at a time.
-use Rattle.std.proofs.Common.{◌≡◌, ℕ, zero, suc, ◌+◌, ◌-◌, ◌*◌, ◌^◌, ◌<◌, ◌≤◌, Bool, true, false, ◌||◌, ◌==◌, if◌then◌else◌, List, [], ◌∷◌, ◌++◌, length, take, drop, get_or, Option, Some, None, refl, sym, ap, ◌∙◌, arith, length-drop, length-append, length-take, append_assoc, subst, ◌⊎◌, inl, inr}
+use Rattle.std.proofs.Common.{◌≡◌, ℕ, zero, suc, ◌+◌, ◌*◌, ◌^◌, ◌<◌, ◌≤◌, Bool, true, false, ◌||◌, ◌==◌, if◌then◌else◌, List, [], ◌∷◌, ◌++◌, length, take, drop, get_or, Option, Some, None, refl, sym, ap, ◌∙◌, arith, length-drop, length-append, length-take, append_assoc, subst, ◌⊎◌, inl, inr}
 use Rattle.std.specs.Prelude.{All, sum_by, unwrap_or}
-use Rattle.std.specs.List.{prefix_len}
-use Rattle.std.specs.Char.{is_ascii_alphabetic, is_ascii_digit}
+use Rattle.std.specs.Char.{is_ascii_alphabetic}
 use Rattle.std.proofs.lemmas.List.Elements.{All-nil, All-cons, All-head, All-tail}
 use Rattle.std.proofs.lemmas.List.Sums.{sum_by-cons}
 use Rattle.std.proofs.lemmas.Bool.{true≢false}
 use Rattle.std.proofs.lemmas.Option.{none-some, cond_some}
-use Rattle.std.proofs.Math.Nat.{mul-le-mul_right}
 use Rattle.hpgl_text.specs.Bytes.{byte, begins_with}
-use Rattle.hpgl_text.specs.Numbers.{digits, decimals_sum, integer_part, fraction, decimals, point_length, sign_length, unsigned}
+use Rattle.hpgl_text.specs.Numbers.{integer_part, fraction, decimals, point_length, sign_length, unsigned}
 use Rattle.escapes.specs.declared.command.Sign.{Sign}
 use Rattle.escapes.specs.declared.command.Sign.TheVariants.{Unsigned, Minus}
-use Rattle.escapes.specs.declared.command.TheConstants.{GREATEST_INTEGER}
-use Rattle.escapes.specs.Commands.{Said, is_small, is_large, capital, takes_data, data_count, sign_of, capped, millionths_of, after_value, finished}
+use Rattle.escapes.specs.Commands.{Said, is_small, is_large, capital, takes_data, data_count, sign_of, capped, value_limit, millionths_of, after_value, finished}
 use Rattle.escapes.specs.Escapes.{chain, some_commands, grouped, is_group, is_alone, alone, language, language_digits, language_letter, minus_length, escape}
+use Rattle.escapes.proofs.Digits.{cases, value_small}
 use Rattle.escapes.proofs.Chains.{some_small, some_large, value_shorter}
 use Rattle.escapes.specs.Laws.{bytes_of, wanted, EscapesTakeBytes, CommandsAreApart, CommandsShareTheirGroup, CommandsAreInRange, DataAreAsLongAsSaid}
 
@@ -36,7 +34,7 @@ pub record AreIn (group parameter : Option ℕ) (text : List ℕ) (found : List 
   pub taken : IsEnd found.1 text
   pub apart : sum_by bytes_of found.0 + length found.1 ≤ length text
   pub alike : All (IsOf group parameter) found.0
-  pub values : All (λ command. command.millionths < (GREATEST_INTEGER + 1) * 10 ^ 6) found.0
+  pub values : All (λ command. command.millionths < value_limit) found.0
   pub letters : All IsCapital found.0
   pub most : All (λ command. length command.input ≤ wanted command) found.0
   pub whole : 0 < length found.1 → All (λ command. length command.input ≡ wanted command) found.0
@@ -46,7 +44,7 @@ pub record IsIn (group parameter : Option ℕ) (text : List ℕ) (found : Said �
   pub taken : IsEnd found.1 text
   pub apart : bytes_of found.0 + length found.1 ≤ length text
   pub alike : IsOf group parameter found.0
-  pub value : found.0.millionths < (GREATEST_INTEGER + 1) * 10 ^ 6
+  pub value : found.0.millionths < value_limit
   pub letter : IsCapital found.0
   pub most : length found.0.input ≤ wanted found.0
   pub whole : 0 < length found.1 → length found.0.input ≡ wanted found.0
@@ -60,10 +58,18 @@ take_drop (suc n) [] = refl
 take_drop (suc n) (b ∷ text) = ap (λ (z : List ℕ). b ∷ z) (take_drop n text)
 
 end_drop : (n : ℕ) (rest text : List ℕ) → IsEnd rest text → IsEnd (drop n rest) text
-end_drop n rest text (taken, e) = (taken ++ take n rest, e ∙ ap (λ (z : List ℕ). taken ++ z) (take_drop n rest) ∙ sym (append_assoc taken (take n rest) (drop n rest)))
+end_drop n rest text (taken, e) = (
+  taken ++ take n rest,
+  e ∙ ap (λ (z : List ℕ). taken ++ z) (take_drop n rest) ∙ sym
+      (append_assoc taken (take n rest) (drop n rest)),
+)
 
 end_of_end : (rest more text : List ℕ) → IsEnd rest more → IsEnd more text → IsEnd rest text
-end_of_end rest more text (first, e) (second, f) = (second ++ first, f ∙ ap (λ (z : List ℕ). second ++ z) e ∙ sym (append_assoc second first rest))
+end_of_end rest more text (first, e) (second, f) = (
+  second ++ first,
+  f ∙ ap (λ (z : List ℕ). second ++ z) e ∙ sym
+      (append_assoc second first rest),
+)
 
 -- no command
 none_in : (group parameter : Option ℕ) (text : List ℕ) → AreIn group parameter text ([], text)
@@ -71,7 +77,7 @@ none_in group parameter text = record {
   taken = end_self text;
   apart = omega arith;
   alike = All-nil (IsOf group parameter);
-  values = All-nil (λ (command : Said). command.millionths < (GREATEST_INTEGER + 1) * 10 ^ 6);
+  values = All-nil (λ (command : Said). command.millionths < value_limit);
   letters = All-nil IsCapital;
   most = All-nil (λ (command : Said). length command.input ≤ wanted command);
   whole = λ h. All-nil (λ (command : Said). length command.input ≡ wanted command);
@@ -84,14 +90,16 @@ one_more group parameter text first more one others = record {
   taken = end_of_end more.1 first.1 text others.taken one.taken;
   apart = omega (arith, sum_by-cons bytes_of first.0 more.0, one.apart, others.apart);
   alike = All-cons (IsOf group parameter) first.0 more.0 one.alike others.alike;
-  values = All-cons (λ (command : Said). command.millionths < (GREATEST_INTEGER + 1) * 10 ^ 6) first.0 more.0 one.value others.values;
+  values = All-cons (λ (command : Said). command.millionths < value_limit) first.0 more.0 one.value others.values;
   letters = All-cons IsCapital first.0 more.0 one.letter others.letters;
   most = All-cons (λ (command : Said). length command.input ≤ wanted command) first.0 more.0 one.most others.most;
-  whole = λ h. All-cons (λ (command : Said). length command.input ≡ wanted command) first.0 more.0 (one.whole (omega (arith, h, others.apart))) (others.whole h);
+  whole = λ h. All-cons (λ (command : Said). length command.input ≡ wanted command) first.0 more.0 (one.whole (omega
+      (arith, h, others.apart))) (others.whole h);
 }
 
 -- commands in the end of a text are in it
-in_end : (group parameter : Option ℕ) (n : ℕ) (text : List ℕ) (found : List Said × List ℕ) → AreIn group parameter (drop n text) found → AreIn group parameter text found
+in_end : (group parameter : Option ℕ) (n : ℕ) (text : List ℕ) (found : List Said × List ℕ) → AreIn group parameter
+    (drop n text) found → AreIn group parameter text found
 in_end group parameter n text found h = record {
   taken = end_of_end found.1 (drop n text) text h.taken (end_drop n text text (end_self text));
   apart = omega (arith, h.apart, length-drop n text);
@@ -103,8 +111,9 @@ in_end group parameter n text found h = record {
 }
 
 -- a command by its value and the text from its letter on
-finished_in : (group parameter : Option ℕ) (sign : Sign) (millionths : ℕ) (letter text : List ℕ) → 0 < length letter → IsEnd letter text → length letter ≤ length text
-    → millionths < (GREATEST_INTEGER + 1) * 10 ^ 6 → is_large (capital (get_or letter 0 0)) ≡ true
+finished_in : (group parameter : Option ℕ) (sign : Sign) (millionths : ℕ) (letter text : List ℕ) → 0 < length letter
+    → IsEnd letter text → length letter ≤ length text
+    → millionths < value_limit → is_large (capital (get_or letter 0 0)) ≡ true
     → IsIn group parameter text (finished group parameter sign millionths letter)
 finished_in group parameter sign millionths letter text some rest shorter value large =
     let count : ℕ = data_count group parameter sign millionths (capital (get_or letter 0 0)) in
@@ -127,40 +136,6 @@ large_capital b e = grind arith
 pub language_capital : (b : ℕ) → (is_ascii_alphabetic b || (b == byte "@")) ≡ true → is_large (capital b) ≡ true
 language_capital b e = grind arith
 
--- a choice, in which each part has what the other has
-cases : {A : Type 0} (P : A → Type 0) (b : Bool) (x y : A) → (b ≡ true → P x) → (b ≡ false → P y) → P (if b then x else y)
-cases P true x y p q = p refl
-cases P false x y p q = q refl
-
--- decimals are below 1
-digit_small : (x : ℕ) → is_ascii_digit x ≡ true → x - 48 ≤ 9
-digit_small x e = grind arith
-
-powers_grow : (k : ℕ) → 0 < 10 ^ k
-powers_grow zero = omega arith
-powers_grow (suc k) = let t : 10 ^ suc k ≡ 10 * 10 ^ k = omega arith in omega (arith, t, powers_grow k)
-
-decimals_small : (k : ℕ) (text : List ℕ) → decimals_sum k (digits text) < 10 ^ k
-decimals_small zero text = omega arith
-decimals_small (suc k) [] = powers_grow (suc k)
-decimals_small (suc k) (x ∷ text) =
-    let count : ℕ = prefix_len is_ascii_digit text in
-    cases (λ (z : ℕ). decimals_sum (suc k) (take z (x ∷ text)) < 10 ^ suc k) (is_ascii_digit x) (1 + count) 0
-    (λ d. let next : 1 + count ≡ suc count = omega arith in
-    let first : take (1 + count) (x ∷ text) ≡ x ∷ digits text = ap (λ (z : ℕ). take z (x ∷ text)) next in
-    let n : ℕ = x - 48 in
-    let r : n * 10 ^ k ≤ 9 * 10 ^ k = mul-le-mul_right (10 ^ k) (digit_small x d) in
-    let t : 10 ^ suc k ≡ 10 * 10 ^ k = omega arith in
-    subst (λ (z : List ℕ). decimals_sum (suc k) z < 10 ^ suc k) (sym first) (omega (arith, r, t, decimals_small k text)))
-    (λ _. powers_grow (suc k))
-
--- a value is in range
-value_small : (text : List ℕ) → millionths_of text < (GREATEST_INTEGER + 1) * 10 ^ 6
-value_small text =
-    let fraction_is : decimals_sum 6 (decimals text) < 10 ^ 6 = cases (λ (z : List ℕ). decimals_sum 6 z < 10 ^ 6) (begins_with "." (fraction text)) (digits (drop 1 (fraction text))) []
-    (λ _. decimals_small 6 (drop 1 (fraction text))) (λ _. powers_grow 6) in
-    omega (arith, fraction_is)
-
 -- what follows a value ends the text
 value_end : (text : List ℕ) → IsEnd (after_value text) text
 value_end text =
@@ -169,7 +144,8 @@ value_end text =
     (end_drop (length (integer_part text)) (unsigned text) text
     (end_drop (sign_length text) text text (end_self text))))
 
-chain_in : (fuel group : ℕ) (parameter : Option ℕ) (text : List ℕ) → AreIn (Some group) parameter text (chain fuel group parameter text)
+chain_in : (fuel group : ℕ) (parameter : Option ℕ) (text : List ℕ) → AreIn (Some group) parameter text
+    (chain fuel group parameter text)
 unfolding chain
 chain_in zero group parameter text = none_in (Some group) parameter text
 chain_in (suc fuel) group parameter text =
@@ -177,11 +153,15 @@ chain_in (suc fuel) group parameter text =
     let first : Said × List ℕ = finished (Some group) parameter (sign_of text) (millionths_of text) (after_value text) in
     let more : List Said × List ℕ = chain fuel group parameter first.1 in
     let one : is_large (capital letter) ≡ true → 0 < length (after_value text) → IsIn (Some group) parameter text first =
-    λ large some. finished_in (Some group) parameter (sign_of text) (millionths_of text) (after_value text) text some (value_end text) (value_shorter text) (value_small text) large in
-    cases (AreIn (Some group) parameter text) (is_small letter) (first.0 ∷ more.0, more.1) (if is_large letter then (first.0 ∷ [], first.1) else ([], text))
-    (λ small. one_more (Some group) parameter text first more (one (small_capital letter small) (some_small (after_value text) small)) (chain_in fuel group parameter first.1))
+    λ large some. finished_in (Some group) parameter (sign_of text) (millionths_of text) (after_value text) text some
+    (value_end text) (value_shorter text) (value_small text) large in
+    cases (AreIn (Some group) parameter text) (is_small letter) (first.0 ∷ more.0, more.1) (if is_large letter then
+    (first.0 ∷ [], first.1) else ([], text))
+    (λ small. one_more (Some group) parameter text first more (one (small_capital letter small) (some_small
+    (after_value text) small)) (chain_in fuel group parameter first.1))
     (λ _. cases (AreIn (Some group) parameter text) (is_large letter) (first.0 ∷ [], first.1) ([], text)
-    (λ large. one_more (Some group) parameter text first ([], first.1) (one (large_capital letter large) (some_large (after_value text) large)) (none_in (Some group) parameter first.1))
+    (λ large. one_more (Some group) parameter text first ([], first.1) (one (large_capital letter large) (some_large
+    (after_value text) large)) (none_in (Some group) parameter first.1))
     (λ _. none_in (Some group) parameter text))
 
 -- what an escape is, by its group
@@ -211,9 +191,14 @@ grouped_in group parameter n text found is e =
       Some group,
       parameter,
       record {
-        commands = in_end (Some group) parameter n text found (subst (λ (z : List Said × List ℕ). AreIn (Some group) parameter (drop n text) z) f (chain_in (length (drop n text)) group parameter (drop n text)));
+        commands = in_end (Some group) parameter n text found (subst (λ (z : List Said × List ℕ). AreIn (Some group) parameter
+            (drop n text) z) f (chain_in (length (drop n text)) group parameter (drop n text)));
         some = some;
-        one = λ h. absurd (elim h [ inl a ↦ none-some group (sym a) | inr b ↦ group_is_other group is (ap (λ (z : Option ℕ). unwrap_or z 0) b) ]);
+        one = λ h. absurd (elim h [
+          | inl a ↦ none-some group (sym a)
+          | inr b ↦ group_is_other group is (ap (λ
+              (z : Option ℕ). unwrap_or z 0) b)
+        ]);
       },
     )
 
@@ -257,17 +242,26 @@ language_in n whole found e =
     let sign : Sign = if begins_with "-" text then Minus else Unsigned in
     let letters : List ℕ = language_letter text in
     let said : Said × List ℕ = finished (Some (byte "%")) None sign (capped (language_digits text) * 10 ^ 6) letters in
-    let (is, f) = cond_some (is_ascii_alphabetic (get_or letters 0 0) || (get_or letters 0 0 == byte "@")) (said.0 ∷ [], said.1) found e in
-    let one : IsIn (Some (byte "%")) None text said = finished_in (Some (byte "%")) None sign (capped (language_digits text) * 10 ^ 6) letters text
+    let (is, f) = cond_some (is_ascii_alphabetic (get_or letters 0 0) || (get_or letters 0 0 == byte "@"))
+    (said.0 ∷ [], said.1) found e in
+    let one : IsIn (Some (byte "%")) None text said = finished_in (Some (byte "%")) None sign (capped
+    (language_digits text) * 10 ^ 6) letters text
     (some_letter letters is)
-    (end_drop (length (language_digits text)) (drop (minus_length text) text) text (end_drop (minus_length text) text text (end_self text)))
-    (omega (arith, length-drop (length (language_digits text)) (drop (minus_length text) text), length-drop (minus_length text) text))
+    (end_drop (length (language_digits text)) (drop (minus_length text) text) text (end_drop (minus_length text) text text
+    (end_self text)))
+    (omega (
+      arith,
+      length-drop (length (language_digits text)) (drop (minus_length text) text),
+      length-drop
+          (minus_length text) text,
+    ))
     (omega arith) (language_capital (get_or letters 0 0) is) in
     subst (AnEscape whole) f (
       Some (byte "%"),
       None,
       record {
-        commands = in_end (Some (byte "%")) None n whole (said.0 ∷ [], said.1) (one_more (Some (byte "%")) None text said ([], said.1) one (none_in (Some (byte "%")) None said.1));
+        commands = in_end (Some (byte "%")) None n whole (said.0 ∷ [], said.1) (one_more (Some (byte "%")) None text said
+            ([], said.1) one (none_in (Some (byte "%")) None said.1));
         some = omega arith;
         one = λ h. refl;
       },
@@ -279,11 +273,15 @@ escape_is text found =
     let first : ℕ = get_or text 0 0 in
     let next : ℕ = get_or text 1 0 in
     let P : Option (List Said × List ℕ) → Type 0 = λ z. z ≡ Some found → AnEscape text found in
-    cases P (is_alone first) (Some (alone first ∷ [], drop 1 text)) (if first == byte "%" then language (drop 1 text) else if is_group first then (if is_small next then grouped first (Some next) (drop 2 text) else grouped first None (drop 1 text)) else None)
+    cases P (is_alone first) (Some (alone first ∷ [], drop 1 text)) (if first == byte "%" then language
+    (drop 1 text) else if is_group first then (if is_small next then grouped first (Some next)
+    (drop 2 text) else grouped first None (drop 1 text)) else None)
     (alone_in text found)
-    (λ _. cases P (first == byte "%") (language (drop 1 text)) (if is_group first then (if is_small next then grouped first (Some next) (drop 2 text) else grouped first None (drop 1 text)) else None)
+    (λ _. cases P (first == byte "%") (language (drop 1 text)) (if is_group first then (if is_small next then grouped first
+    (Some next) (drop 2 text) else grouped first None (drop 1 text)) else None)
     (λ _. language_in 1 text found)
-    (λ _. cases P (is_group first) (if is_small next then grouped first (Some next) (drop 2 text) else grouped first None (drop 1 text)) None
+    (λ _. cases P (is_group first) (if is_small next then grouped first (Some next) (drop 2 text) else grouped first None
+    (drop 1 text)) None
     (λ is. cases P (is_small next) (grouped first (Some next) (drop 2 text)) (grouped first None (drop 1 text))
     (λ _. grouped_in first (Some next) 2 text found is)
     (λ _. grouped_in first None 1 text found is))

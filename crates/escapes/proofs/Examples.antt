@@ -7,7 +7,15 @@ use Rattle.escapes.specs.Commands.{Said}
 use Rattle.escapes.specs.Escapes.{chain, escape}
 
 command : Option ℕ → Option ℕ → Sign → ℕ → List ℕ → List ℕ → Said
-command group parameter sign millionths letter input = record { group = group; parameter = parameter; sign = sign; millionths = millionths; letter = sum_of letter; input = input }
+command group parameter sign millionths letter input = record {
+  group = group;
+  parameter = parameter;
+  sign = sign;
+  millionths =
+      millionths;
+  letter = sum_of letter;
+  input = input;
+}
   where
     sum_of : List ℕ → ℕ
     sum_of [] = 0
@@ -22,7 +30,8 @@ unfolding command
 alone_nine = refl
 
 -- strays: no command, another ESC, a device control, the end
-strays : map escape (codes "*b" ∷ (42 ∷ 98 ∷ 27 ∷ []) ∷ (27 ∷ codes "(s3B") ∷ codes ".(" ∷ [] ∷ codes "*b12" ∷ codes "%8" ∷ []) ≡ None ∷ None ∷ None ∷ None ∷ None ∷ None ∷ None ∷ []
+strays : map escape (codes "*b" ∷ (42 ∷ 98 ∷ 27 ∷ []) ∷
+    (27 ∷ codes "(s3B") ∷ codes ".(" ∷ [] ∷ codes "*b12" ∷ codes "%8" ∷ []) ≡ None ∷ None ∷ None ∷ None ∷ None ∷ None ∷ None ∷ []
 unfolding chain
 strays = refl
 
@@ -37,18 +46,35 @@ one_command = refl
 
 -- two commands; the second breaks off
 two_commands : map escape (codes "*r9a1G" ∷ codes "*r9a1;" ∷ codes "*p12x-6.5Y" ∷ codes "*rbC" ∷ [])
-    ≡ Some (command (Some 42) (Some 114) Unsigned 9000000 (codes "A") [] ∷ command (Some 42) (Some 114) Unsigned 1000000 (codes "G") [] ∷ [], [])
+    ≡ Some (
+      command (Some 42) (Some 114) Unsigned 9000000 (codes "A") [] ∷ command (Some 42) (Some 114) Unsigned 1000000
+          (codes "G") [] ∷ [],
+      [],
+    )
     ∷ Some (command (Some 42) (Some 114) Unsigned 9000000 (codes "A") [] ∷ [], codes "1;")
-    ∷ Some (command (Some 42) (Some 112) Unsigned 12000000 (codes "X") [] ∷ command (Some 42) (Some 112) Minus 6500000 (codes "Y") [] ∷ [], [])
-    ∷ Some (command (Some 42) (Some 114) Unsigned 0 (codes "B") [] ∷ command (Some 42) (Some 114) Unsigned 0 (codes "C") [] ∷ [], []) ∷ []
+    ∷ Some (
+      command (Some 42) (Some 112) Unsigned 12000000 (codes "X") [] ∷ command (Some 42) (Some 112) Minus 6500000
+          (codes "Y") [] ∷ [],
+      [],
+    )
+    ∷ Some (
+      command (Some 42) (Some 114) Unsigned 0 (codes "B") [] ∷ command (Some 42) (Some 114) Unsigned 0
+          (codes "C") [] ∷ [],
+      [],
+    ) ∷ []
 unfolding chain command
 two_commands = refl
 
 -- data: of W in any group, of *b..V and &p..X, after small letters, too; below 0 none, and what is left
-with_data : map escape (codes "&p5XPD9,9;" ∷ codes ")s5WPD8,8PD" ∷ codes "*b1v(1V)" ∷ codes "*b-3WAB" ∷ codes "*b9WAB" ∷ codes "*b1.5WABC" ∷ codes "*t3XAB" ∷ [])
+with_data : map escape (codes "&p5XPD9,9;" ∷ codes ")s5WPD8,8PD" ∷ codes "*b1v(1V)" ∷ codes "*b-3WAB" ∷ codes "*b9WAB" ∷ codes
+    "*b1.5WABC" ∷ codes "*t3XAB" ∷ [])
     ≡ Some (command (Some 38) (Some 112) Unsigned 5000000 (codes "X") (codes "PD9,9") ∷ [], codes ";")
     ∷ Some (command (Some 41) (Some 115) Unsigned 5000000 (codes "W") (codes "PD8,8") ∷ [], codes "PD")
-    ∷ Some (command (Some 42) (Some 98) Unsigned 1000000 (codes "V") (codes "(") ∷ command (Some 42) (Some 98) Unsigned 1000000 (codes "V") (codes ")") ∷ [], [])
+    ∷ Some (
+      command (Some 42) (Some 98) Unsigned 1000000 (codes "V") (codes "(") ∷ command (Some 42) (Some 98) Unsigned 1000000
+          (codes "V") (codes ")") ∷ [],
+      [],
+    )
     ∷ Some (command (Some 42) (Some 98) Minus 3000000 (codes "W") [] ∷ [], codes "AB")
     ∷ Some (command (Some 42) (Some 98) Unsigned 9000000 (codes "W") (codes "AB") ∷ [], [])
     ∷ Some (command (Some 42) (Some 98) Unsigned 1500000 (codes "W") (codes "AB") ∷ [], codes "C")

@@ -39,6 +39,10 @@ capped written = min (digits_sum written) GREATEST_INTEGER
 abbrev pub millionths_of : List ℕ → ℕ
 millionths_of text = capped (integer_part text) * 10 ^ 6 + decimals_sum 6 (decimals text)
 
+-- each value is below this, in millionths
+abbrev pub value_limit : ℕ
+value_limit = (GREATEST_INTEGER + 1) * 10 ^ 6
+
 -- what follows it
 abbrev pub after_value : List ℕ → List ℕ
 after_value text = drop (length (decimals text)) (drop (point_length (fraction text)) (fraction text))
@@ -69,5 +73,14 @@ data_count group parameter sign millionths letter = if takes_data group paramete
 abbrev pub finished : Option ℕ → Option ℕ → Sign → ℕ → List ℕ → Said × List ℕ
 finished group parameter sign millionths text =
     let letter = capital (slice_index text 0) in
-    let count = data_count group parameter sign millionths letter in
-    (record { group = group; parameter = parameter; sign = sign; millionths = millionths; letter = letter; input = take count (drop 1 text) }, drop count (drop 1 text))
+    let count = data_count group parameter sign millionths letter in (
+      record {
+        group = group;
+        parameter = parameter;
+        sign = sign;
+        millionths = millionths;
+        letter = letter;
+        input = take count (drop 1 text);
+      },
+      drop count (drop 1 text),
+    )

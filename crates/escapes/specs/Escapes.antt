@@ -49,8 +49,16 @@ language_letter text = drop (length (language_digits text)) (drop (minus_length 
 abbrev pub language : List ℕ → Option (List Said × List ℕ)
 language text =
     let letter = slice_index (language_letter text) 0 in
-    let said = finished (Some (byte "%")) None (if begins_with "-" text then Minus else Unsigned) (capped (language_digits text) * 10 ^ 6) (language_letter text) in
+    let sign = if begins_with "-" text then Minus else Unsigned in
+    let said = finished (Some (byte "%")) None sign (capped (language_digits text) * 10 ^ 6) (language_letter text) in
     if is_ascii_alphabetic letter || (letter == byte "@") then Some (said.0 ∷ [], said.1) else None
+
+-- a group with a small letter after its byte, or without one
+abbrev pub begun : ℕ → List ℕ → Option (List Said × List ℕ)
+begun group text =
+    if is_small (slice_index text 1)
+    then grouped group (Some (slice_index text 1)) (drop 2 text)
+    else grouped group None (drop 1 text)
 
 -- the commands of an escape, from the byte after the ESC on, and the text after it; none if the ESC is a stray
 abbrev pub escape : List ℕ → Option (List Said × List ℕ)
@@ -58,7 +66,7 @@ escape text =
     let first = slice_index text 0 in
     if is_alone first then Some (alone first ∷ [], drop 1 text) else
     if first == byte "%" then language (drop 1 text) else
-    if is_group first then (if is_small (slice_index text 1) then grouped first (Some (slice_index text 1)) (drop 2 text) else grouped first None (drop 1 text)) else
+    if is_group first then begun first text else
     None
 
 -- how many bytes of the text an escape takes

@@ -1,8 +1,7 @@
 -- What holds of escapes.
-use Rattle.std.specs.Prelude.{◌≡◌, ℕ, ◌+◌, ◌*◌, ◌^◌, ◌<◌, ◌≤◌, true, List, [], ◌∷◌, ◌++◌, length, sum_by, All, Some, None}
+use Rattle.std.specs.Prelude.{◌≡◌, ℕ, ◌+◌, ◌<◌, ◌≤◌, true, List, [], ◌∷◌, ◌++◌, length, sum_by, All, Some, None}
 use Rattle.hpgl_text.specs.Bytes.{byte}
-use Rattle.escapes.specs.declared.command.TheConstants.{GREATEST_INTEGER}
-use Rattle.escapes.specs.Commands.{Said, is_large, data_count}
+use Rattle.escapes.specs.Commands.{Said, is_large, value_limit, data_count}
 use Rattle.escapes.specs.Escapes.{escape}
 
 -- an escape takes the begin of a text, of at least a byte
@@ -33,7 +32,7 @@ pub record CommandsShareTheirGroup : Type 0 where
 -- an integer part is at most the greatest, and the letter of a command with a group is a capital
 pub record CommandsAreInRange : Type 0 where
   pub values : (text : List ℕ) (commands : List Said) (rest : List ℕ) → escape text ≡ Some (commands, rest)
-      → All (λ command. command.millionths < (GREATEST_INTEGER + 1) * 10 ^ 6) commands
+      → All (λ command. command.millionths < value_limit) commands
   pub letters : (text : List ℕ) (commands : List Said) (rest : List ℕ) → escape text ≡ Some (commands, rest)
       → All (λ command. (b : ℕ) → command.group ≡ Some b → is_large command.letter ≡ true) commands
 

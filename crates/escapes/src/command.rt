@@ -1,6 +1,6 @@
 //! Commands.
 ghost use Rattle.std.specs.Prelude.{◌≡◌, ◌<◌, ◌^◌, ◌≤◌, length, drop, slice_index};
-ghost use Rattle.escapes.specs.Commands.{capital, is_byte, takes_data, count_of, data_count, finished};
+ghost use Rattle.escapes.specs.Commands.{value_limit, capital, is_byte, takes_data, count_of, data_count, finished};
 ghost use Rattle.escapes.specs.Views.{said};
 
 use crate::bytes::{after, before, is_small_letter};
@@ -52,8 +52,9 @@ pub fn finish<'a>(
     text: &'a [u8],
 ) -> Finished<'a>
     requires some { 0 < length text.now }
-    requires small { millionths < 2 ^ 60 }
+    requires small { millionths < value_limit }
     ensures finished { (said result.command, result.rest.now) ≡ finished group parameter sign millionths text.now }
+    ensures small { result.command.millionths < value_limit }
     ensures shorter { length result.rest.now < length text.now }
 {
     let letter = capital(text[0]);
@@ -90,7 +91,7 @@ fn data_count(
     millionths: u64,
     letter: u8,
 ) -> usize
-    requires { millionths < 2 ^ 60 }
+    requires { millionths < value_limit }
     ensures { result ≡ data_count group parameter sign millionths letter }
 {
     if takes_data(group, parameter, letter) {
@@ -120,7 +121,7 @@ fn is_byte(found: Option<u8>, byte: u8) -> bool
 
 // How many bytes of data a value asks for.
 fn count_of(sign: Sign, millionths: u64) -> usize
-    requires { millionths < 2 ^ 60 }
+    requires { millionths < value_limit }
     ensures { result ≡ count_of sign millionths }
 {
     match sign {

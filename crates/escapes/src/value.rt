@@ -1,7 +1,7 @@
 //! Values of commands.
 ghost use Rattle.std.specs.Prelude.{◌≡◌, ◌*◌, ◌^◌, ◌<◌, ◌≤◌, length, drop};
 ghost use Rattle.hpgl_text.specs.Numbers.{digits, unsigned, digits_after_point, point_length, decimals_sum};
-ghost use Rattle.escapes.specs.Commands.{sign_of, capped, millionths_of, after_value};
+ghost use Rattle.escapes.specs.Commands.{sign_of, value_limit, capped, millionths_of, after_value};
 ghost use Rattle.escapes.specs.declared.command.TheConstants.{GREATEST_INTEGER};
 
 use crate::bytes::{after, byte_at, first_digits};
@@ -20,7 +20,7 @@ pub fn first_value<'a>(text: &'a [u8]) -> Value<'a>
     ensures sign { result.sign ≡ sign_of text.now }
     ensures millionths { result.millionths ≡ millionths_of text.now }
     ensures rest { result.rest.now ≡ after_value text.now }
-    ensures small { result.millionths < 2 ^ 60 }
+    ensures small { result.millionths < value_limit }
     ensures shorter { length result.rest.now ≤ length text.now }
 {
     let integer = first_integer(after_sign(text));
@@ -78,10 +78,11 @@ pub fn first_integer<'a>(text: &'a [u8]) -> Digits<'a>
 }
 
 // The first six digits after a point that a text begins with, in millionths.
+#[tactic(auto, using(crate::proofs::Digits::decimals_small))]
 fn first_decimals<'a>(text: &'a [u8]) -> Digits<'a>
     ensures value { result.value ≡ decimals_sum 6 (digits_after_point text.now) }
     ensures rest { result.rest.now ≡ drop (length (digits_after_point text.now)) (drop (point_length text.now) text.now) }
-    ensures small { result.value ≤ 23000000 }
+    ensures small { result.value < 10 ^ 6 }
 {
     if byte_at(text, 0) != b'.' {
         return Digits {
@@ -104,9 +105,8 @@ fn integer_of(digits: &[u8]) -> u64
 {
     let mut value: u64 = 0;
     for digit in digits {
-        value = (value * 10 + u64::from((*digit).saturating_sub(b'0'))).min(u64::from(
-            GREATEST_INTEGER,
-        ));
+        let longer = value * 10 + u64::from((*digit).saturating_sub(b'0'));
+        value = longer.min(u64::from(GREATEST_INTEGER));
     }
     value
 }

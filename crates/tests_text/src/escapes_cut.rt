@@ -8,6 +8,7 @@ use std::test::Fail;
 // What follows an ESC; its commands, with their values in millionths and their data in brackets; how many bytes it takes.
 const GROUPS: &str = "\
 *c5P = *c5000000P 4
+*c5P1A = *c5000000P 4
 (s3BX = (s3000000B 4
 (8U = (8000000U 3
 *rB = *r0B 3

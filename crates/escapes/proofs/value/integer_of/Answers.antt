@@ -3,4 +3,9 @@ use Rattle.escapes.proofs.Digits.{digits_sum_more}
 use Rattle.escapes.proofs.value.integer_of.Goals as goal
 
 pub loop-digit-preserved : goal.loop-digit-preserved
-loop-digit-preserved c = omega (arith, digits_sum_more c.args.digits.now c.loop-digit.digit-index (omega arith), c.loop-digit.invariant)
+loop-digit-preserved c = omega (
+  arith,
+  digits_sum_more c.args.digits.now c.loop-digit.digit-index
+      (omega arith),
+  c.loop-digit.invariant,
+)
