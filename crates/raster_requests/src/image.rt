@@ -1,6 +1,7 @@
 //! What commands ask of an image: HP RTL, "Raster Graphics".
 ghost use Rattle.std.specs.Prelude.{◌≡◌, ◌≤◌, nat_abs, pos, ◌<ℤ◌, ◌≤ℤ◌, IfSome};
 ghost use Rattle.raster_requests.specs.Images.{above_0, resolution_of, width_of, height_of, coding_of, transparency_of};
+ghost use Rattle.raster_requests.specs.Ranges.{IsSettingInRange};
 ghost use Rattle.raster_requests.specs.Images.{corner_of, row_compression, rows_moved};
 
 use image_rows::Compression;
@@ -72,7 +73,8 @@ pub enum Primary {
 /// A number that must be above 0. None if it is not.
 fn above_0(number: i64) -> Option<u32>
     requires { nat_abs number ≤ 2147483648 }
-    ensures { result ≡ above_0 number }
+    ensures value { result ≡ above_0 number }
+    ensures range { IfSome result (λ n. (1 ≤ n) × (n ≤ 2147483648)) }
 {
     if number > 0 {
         Some(number as u32)
@@ -83,7 +85,8 @@ fn above_0(number: i64) -> Option<u32>
 
 /// What `*t` R sets.
 pub fn resolution_of(number: i64) -> ImageSetting
-    ensures { result ≡ resolution_of number }
+    ensures value { result ≡ resolution_of number }
+    ensures range { IsSettingInRange result }
 {
     if 10 <= number && number <= 2400 {
         ImageSetting::Resolution(number as u32)
@@ -95,7 +98,8 @@ pub fn resolution_of(number: i64) -> ImageSetting
 /// What `*r` S sets.
 pub fn width_of(number: i64) -> ImageSetting
     requires { nat_abs number ≤ 2147483648 }
-    ensures { result ≡ width_of number }
+    ensures value { result ≡ width_of number }
+    ensures range { IsSettingInRange result }
 {
     match above_0(number) {
         None => ImageSetting::Width(None),
@@ -106,7 +110,8 @@ pub fn width_of(number: i64) -> ImageSetting
 /// What `*r` T sets.
 pub fn height_of(number: i64) -> ImageSetting
     requires { nat_abs number ≤ 2147483648 }
-    ensures { result ≡ height_of number }
+    ensures value { result ≡ height_of number }
+    ensures range { IsSettingInRange result }
 {
     ImageSetting::Height(above_0(number))
 }
@@ -161,7 +166,8 @@ pub fn row_compression(number: i64) -> Option<Compression>
 /// How many rows `*b` Y moves.
 pub fn rows_moved(number: i64) -> u32
     requires { nat_abs number ≤ 2147483648 }
-    ensures { result ≡ rows_moved number }
+    ensures value { result ≡ rows_moved number }
+    ensures range { result ≤ 2147483648 }
 {
     if number < 0 { 0 } else { number as u32 }
 }

@@ -2,6 +2,7 @@
 #![tactic(auto)]
 
 mod image;
+pub mod laws;
 mod place;
 mod request;
 mod value;

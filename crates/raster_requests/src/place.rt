@@ -1,5 +1,5 @@
 //! What commands ask of the place of HP RTL, and of the language that is read.
-ghost use Rattle.std.specs.Prelude.{◌≡◌, ◌<◌};
+ghost use Rattle.std.specs.Prelude.{◌≡◌, ◌<◌, nat_abs};
 ghost use Rattle.escapes.specs.Commands.{value_limit};
 ghost use Rattle.escapes.specs.Views.{said};
 ghost use Rattle.raster_requests.specs.Places.{is_relative, place_change, places_of};
@@ -59,7 +59,8 @@ pub enum Places {
 /// The change of RTL's place that a command asks for.
 pub fn place_change(axis: Axis, unit: PlaceUnit, command: &Command<'_>) -> PlaceChange
     requires { command.now.millionths < value_limit }
-    ensures { result ≡ place_change axis unit (said command.now) }
+    ensures value { result ≡ place_change axis unit (said command.now) }
+    ensures range { nat_abs result.millionths < value_limit }
 {
     PlaceChange {
         axis,

@@ -6,6 +6,7 @@ ghost use Rattle.raster_requests.specs.Requests.{asked_alone, asked_of_language,
 ghost use Rattle.raster_requests.specs.Requests.{unit_of, asked_of_unit, asked_of_pcl, asked_of_rows, asked_of_place};
 ghost use Rattle.raster_requests.specs.Requests.{started, asked_of_image, asked_of_resolution, asked_of_colours};
 ghost use Rattle.raster_requests.specs.Requests.{asked_of_raster, request_of};
+ghost use Rattle.raster_requests.specs.Ranges.{IsInRange};
 
 use crate::image::{
     Corner, ImageSetting, Primary, coding_of, corner_of, height_of, resolution_of, row_compression,
@@ -61,7 +62,8 @@ impl Request {
     /// What a command asks. Its value is rounded to a whole number, the upper one of two, but for changes of RTL's place.
     pub fn of(command: &Command<'_>) -> Request
         requires { command.now.millionths < value_limit }
-        ensures { result ≡ request_of (said command.now) }
+        ensures value { result ≡ request_of (said command.now) }
+        ensures ranges { IsInRange result }
     {
         match command.group {
             None => asked_alone(command.letter),
@@ -99,7 +101,8 @@ fn asked_of_language(letter: u8, number: i64) -> Request
 // &.
 fn asked_of_pcl(command: &Command<'_>) -> Request
     requires { command.now.millionths < value_limit }
-    ensures { result ≡ asked_of_pcl command.now.parameter (said command.now) }
+    ensures value { result ≡ asked_of_pcl command.now.parameter (said command.now) }
+    ensures ranges { IsInRange result }
 {
     match command.parameter {
         Some(b'a') => asked_of_decipoints(command),
@@ -112,7 +115,8 @@ fn asked_of_pcl(command: &Command<'_>) -> Request
 // &a.
 fn asked_of_decipoints(command: &Command<'_>) -> Request
     requires { command.now.millionths < value_limit }
-    ensures { result ≡ asked_of_decipoints command.now.letter (said command.now) }
+    ensures value { result ≡ asked_of_decipoints command.now.letter (said command.now) }
+    ensures ranges { IsInRange result }
 {
     match command.letter {
         b'H' => Request::Place(place_change(Axis::AlongRow, PlaceUnit::Decipoint, command)),
@@ -133,7 +137,8 @@ fn asked_of_page(letter: u8, number: i64) -> Request
 
 // &u.
 fn asked_of_unit(letter: u8, number: i64) -> Request
-    ensures { result ≡ asked_of_unit letter number }
+    ensures value { result ≡ asked_of_unit letter number }
+    ensures ranges { IsInRange result }
 {
     match letter {
         b'D' => unit_of(number),
@@ -143,7 +148,8 @@ fn asked_of_unit(letter: u8, number: i64) -> Request
 
 // Units to an inch.
 fn unit_of(number: i64) -> Request
-    ensures { result ≡ unit_of number }
+    ensures value { result ≡ unit_of number }
+    ensures ranges { IsInRange result }
 {
     if 10 <= number && number <= 9600 {
         Request::Unit(number as u32)
@@ -155,7 +161,8 @@ fn unit_of(number: i64) -> Request
 // *.
 fn asked_of_raster(command: &Command<'_>) -> Request
     requires { command.now.millionths < value_limit }
-    ensures { result ≡ asked_of_raster command.now.parameter (said command.now) }
+    ensures value { result ≡ asked_of_raster command.now.parameter (said command.now) }
+    ensures ranges { IsInRange result }
 {
     match command.parameter {
         Some(b'b') => asked_of_rows(command.letter, whole_value(command)),
@@ -171,7 +178,8 @@ fn asked_of_raster(command: &Command<'_>) -> Request
 // *b.
 fn asked_of_rows(letter: u8, number: i64) -> Request
     requires { nat_abs number ≤ 2147483648 }
-    ensures { result ≡ asked_of_rows letter number }
+    ensures value { result ≡ asked_of_rows letter number }
+    ensures ranges { IsInRange result }
 {
     match letter {
         b'M' => Request::Compress(row_compression(number)),
@@ -185,7 +193,8 @@ fn asked_of_rows(letter: u8, number: i64) -> Request
 // *p.
 fn asked_of_place(command: &Command<'_>) -> Request
     requires { command.now.millionths < value_limit }
-    ensures { result ≡ asked_of_place command.now.letter (said command.now) }
+    ensures value { result ≡ asked_of_place command.now.letter (said command.now) }
+    ensures ranges { IsInRange result }
 {
     match command.letter {
         b'X' => Request::Place(place_change(Axis::AlongRow, PlaceUnit::Unit, command)),
@@ -197,7 +206,8 @@ fn asked_of_place(command: &Command<'_>) -> Request
 // *r.
 fn asked_of_image(letter: u8, number: i64) -> Request
     requires { nat_abs number ≤ 2147483648 }
-    ensures { result ≡ asked_of_image letter number }
+    ensures value { result ≡ asked_of_image letter number }
+    ensures ranges { IsInRange result }
 {
     match letter {
         b'A' => started(corner_of(number)),
@@ -223,7 +233,8 @@ fn started(corner: Option<Corner>) -> Request
 
 // *t.
 fn asked_of_resolution(letter: u8, number: i64) -> Request
-    ensures { result ≡ asked_of_resolution letter number }
+    ensures value { result ≡ asked_of_resolution letter number }
+    ensures ranges { IsInRange result }
 {
     match letter {
         b'R' => Request::Set(resolution_of(number)),
@@ -233,7 +244,9 @@ fn asked_of_resolution(letter: u8, number: i64) -> Request
 
 // *v.
 fn asked_of_colours(letter: u8, number: i64) -> Request
-    ensures { result ≡ asked_of_colours letter number }
+    requires { nat_abs number ≤ 2147483648 }
+    ensures value { result ≡ asked_of_colours letter number }
+    ensures ranges { IsInRange result }
 {
     match letter {
         b'A' => Request::PalettePart(Primary::First, number),
