@@ -30,6 +30,8 @@ mod pen_cases;
 #[cfg(test)]
 mod real_plots;
 #[cfg(test)]
+mod requests_told;
+#[cfg(test)]
 mod rows_of_images;
 #[cfg(test)]
 mod shifts;
