@@ -1,13 +1,13 @@
 //! Escapes, a command at a time.
-ghost use Rattle.std.specs.Prelude.{◌≡◌, ◌<◌, ◌≤◌, [], ◌∷◌, length, drop, slice_index, MatchOption, IfSome, Some, None, if◌then◌else◌};
-ghost use Rattle.escapes.specs.Commands.{value_limit};
+ghost use Rattle.std.specs.Prelude.{◌≡◌, ◌<◌, ◌≤◌, [], ◌∷◌, length, MatchOption, IfSome, Some, None, if◌then◌else◌};
 ghost use Rattle.escapes.specs.Escapes.{alone, chain, minus_length, language, escape, escape_length};
 ghost use Rattle.hpgl_text.specs.Bytes.{begins_with};
 ghost use Rattle.escapes.specs.declared.command.Sign.TheVariants.{Unsigned, Minus};
 ghost use Rattle.escapes.specs.Views.{all_of};
 
 use crate::bytes::{after, begins_group, byte_at, is_large_letter, is_small_letter, stands_alone};
-use crate::command::{Command, Sign, finish};
+use crate::command::{Command, Sign};
+use crate::finished::finish;
 use crate::value::{first_integer, first_value};
 
 /// A group of commands that goes on.
@@ -32,7 +32,6 @@ pub struct Step<'a> {
 /// (`.`).
 pub fn first_step<'a>(text: &'a [u8]) -> Option<Step<'a>>
     ensures value { MatchOption result (escape text.now ≡ None) (λ s. escape text.now ≡ Some (all_of s)) }
-    ensures small { IfSome result (λ s. s.command.millionths < value_limit) }
     ensures shorter { IfSome result (λ s. length s.rest.now < length text.now) }
 {
     let first = byte_at(text, 0);
@@ -68,7 +67,6 @@ pub fn first_step<'a>(text: &'a [u8]) -> Option<Step<'a>>
 pub fn next_step<'a>(of: Chain, text: &'a [u8]) -> Option<Step<'a>>
     ensures value { MatchOption result (chain (length text.now) of.group of.parameter text.now ≡ ([], text.now))
         (λ s. chain (length text.now) of.group of.parameter text.now ≡ all_of s) }
-    ensures small { IfSome result (λ s. s.command.millionths < value_limit) }
     ensures shorter { IfSome result (λ s. length s.rest.now < length text.now) }
 {
     let value = first_value(text);
@@ -129,7 +127,6 @@ fn more_of(goes_on: bool, of: Chain) -> Option<Chain>
 fn alone<'a>(letter: u8, rest: &'a [u8]) -> Step<'a>
     ensures value { all_of result ≡ (alone letter ∷ [], rest.now) }
     ensures rest { result.rest.now ≡ rest.now }
-    ensures small { result.command.millionths ≡ 0 }
 {
     Step {
         command: Command {
@@ -148,7 +145,6 @@ fn alone<'a>(letter: u8, rest: &'a [u8]) -> Step<'a>
 // A change between languages, from the byte after the % on.
 fn first_language<'a>(text: &'a [u8]) -> Option<Step<'a>>
     ensures value { MatchOption result (language text.now ≡ None) (λ s. language text.now ≡ Some (all_of s)) }
-    ensures small { IfSome result (λ s. s.command.millionths < value_limit) }
     ensures shorter { IfSome result (λ s. length s.rest.now < length text.now) }
 {
     let integer = first_integer(after(text, minus_count(text)));

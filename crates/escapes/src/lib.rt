@@ -4,6 +4,7 @@
 mod bytes;
 mod command;
 mod escape;
+mod finished;
 pub mod laws;
 mod value;
 

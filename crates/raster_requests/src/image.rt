@@ -1,5 +1,5 @@
 //! What commands ask of an image: HP RTL, "Raster Graphics".
-ghost use Rattle.std.specs.Prelude.{◌≡◌, ◌≤◌, nat_abs, pos, ◌<ℤ◌, ◌≤ℤ◌, IfSome};
+ghost use Rattle.std.specs.Prelude.{◌≡◌, ◌≤◌, nat_abs, IfSome};
 ghost use Rattle.raster_requests.specs.Images.{above_0, resolution_of, width_of, height_of, coding_of, transparency_of};
 ghost use Rattle.raster_requests.specs.Ranges.{IsSettingInRange};
 ghost use Rattle.raster_requests.specs.Images.{corner_of, row_compression, rows_moved};

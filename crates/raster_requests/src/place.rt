@@ -58,7 +58,6 @@ pub enum Places {
 
 /// The change of RTL's place that a command asks for.
 pub fn place_change(axis: Axis, unit: PlaceUnit, command: &Command<'_>) -> PlaceChange
-    requires { command.now.millionths < value_limit }
     ensures value { result ≡ place_change axis unit (said command.now) }
     ensures range { nat_abs result.millionths < value_limit }
 {

@@ -1,6 +1,5 @@
 //! Requests: what each command asks.
-ghost use Rattle.std.specs.Prelude.{◌≡◌, ◌<◌, ◌≤◌, nat_abs};
-ghost use Rattle.escapes.specs.Commands.{value_limit};
+ghost use Rattle.std.specs.Prelude.{◌≡◌, ◌≤◌, nat_abs};
 ghost use Rattle.escapes.specs.Views.{said};
 ghost use Rattle.raster_requests.specs.Requests.{asked_alone, asked_of_language, asked_of_decipoints, asked_of_page};
 ghost use Rattle.raster_requests.specs.Requests.{unit_of, asked_of_unit, asked_of_pcl, asked_of_rows, asked_of_place};
@@ -61,7 +60,6 @@ pub enum Request {
 impl Request {
     /// What a command asks. Its value is rounded to a whole number, the upper one of two, but for changes of RTL's place.
     pub fn of(command: &Command<'_>) -> Request
-        requires { command.now.millionths < value_limit }
         ensures value { result ≡ request_of (said command.now) }
         ensures ranges { IsInRange result }
     {
@@ -100,7 +98,6 @@ fn asked_of_language(letter: u8, number: i64) -> Request
 
 // &.
 fn asked_of_pcl(command: &Command<'_>) -> Request
-    requires { command.now.millionths < value_limit }
     ensures value { result ≡ asked_of_pcl command.now.parameter (said command.now) }
     ensures ranges { IsInRange result }
 {
@@ -114,7 +111,6 @@ fn asked_of_pcl(command: &Command<'_>) -> Request
 
 // &a.
 fn asked_of_decipoints(command: &Command<'_>) -> Request
-    requires { command.now.millionths < value_limit }
     ensures value { result ≡ asked_of_decipoints command.now.letter (said command.now) }
     ensures ranges { IsInRange result }
 {
@@ -160,7 +156,6 @@ fn unit_of(number: i64) -> Request
 
 // *.
 fn asked_of_raster(command: &Command<'_>) -> Request
-    requires { command.now.millionths < value_limit }
     ensures value { result ≡ asked_of_raster command.now.parameter (said command.now) }
     ensures ranges { IsInRange result }
 {
@@ -192,7 +187,6 @@ fn asked_of_rows(letter: u8, number: i64) -> Request
 
 // *p.
 fn asked_of_place(command: &Command<'_>) -> Request
-    requires { command.now.millionths < value_limit }
     ensures value { result ≡ asked_of_place command.now.letter (said command.now) }
     ensures ranges { IsInRange result }
 {

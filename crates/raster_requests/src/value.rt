@@ -9,7 +9,6 @@ use exact::rounded;
 
 /// The value, in millionths.
 pub fn signed_value(command: &Command<'_>) -> i64
-    requires { command.now.millionths < value_limit }
     ensures value { result ≡ signed_value (said command.now) }
     ensures bound { nat_abs result < value_limit }
 {
@@ -22,7 +21,6 @@ pub fn signed_value(command: &Command<'_>) -> i64
 
 /// The value rounded to a whole number, the upper one of two.
 pub fn whole_value(command: &Command<'_>) -> i64
-    requires { command.now.millionths < value_limit }
     ensures value { result ≡ whole_value (said command.now) }
     ensures bound { nat_abs result ≤ 2147483648 }
 {
