@@ -229,9 +229,7 @@ class Rtl:
 
     def set_width(self, command):
         if not self.is_set():
-            if command.rounded() > MOST_WIDTH:
-                raise Bad
-            self.width = max(0, command.rounded()) or None
+            self.width = min(max(0, command.rounded()), MOST_WIDTH) or None
 
     def set_height(self, command):
         if not self.is_set():
