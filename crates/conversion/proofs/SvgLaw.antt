@@ -1,5 +1,7 @@
 -- The SVG of strokes, areas and labels among which sheets end, read back.
-use Rattle.std.proofs.Common.{◌≡◌, ℕ, List, [], ◌∷◌, All, Some, map}
+use Rattle.std.proofs.Common.{◌≡◌, ◌∙◌, ℕ, Bool, false, List, [], ◌∷◌, All, Some, ap, arith, length, map, nat_eq}
+use Rattle.std.proofs.lemmas.Bool.Decides.{nat_tests}
+use Rattle.std.specs.Prelude.{if◌then◌else◌}
 use Rattle.areas.specs.Shapes.{AreApart, NoneGoesOn, shapes}
 use Rattle.areas.specs.declared.area.Area.{Area}
 use Rattle.labels.specs.Labels.{AreBeside, LabelShape}
@@ -9,6 +11,7 @@ use Rattle.plot_page.specs.declared.pens.PenSet.{PenSet}
 use Rattle.stroke_runs.specs.Drawn.{drawn_shapes}
 use Rattle.stroke_runs.specs.Ranges.{IsInRange}
 use Rattle.stroke_runs.specs.Shown.{shown_shape}
+use Rattle.svg.specs.Documents.{sheets_bytes, svg_bytes}
 use Rattle.svg.specs.Reader.{read_svg}
 use Rattle.svg.proofs.BytesLaw.{bytes_read, sheet_bytes_read}
 use Rattle.conversion.specs.Vectors.{svg_of}
@@ -18,4 +21,6 @@ pub svg_read : (page : Page) (pens : PenSet) (strokes : List Segment) (areas : L
     → read_svg (svg_of page pens strokes areas ends labels) ≡ Some (map shown_shape (drawn_shapes pens (shapes strokes areas)))
 svg_read page pens strokes areas [] labels near apart beside among = bytes_read page pens strokes areas labels near apart among
 svg_read page pens strokes areas (end ∷ ends) labels near apart beside among =
-    sheet_bytes_read page pens strokes areas (end ∷ ends) labels near apart beside among
+    let some : nat_eq (length (end ∷ ends)) 0 ≡ false = grind (arith, nat_tests) in
+    ap (λ (b : Bool). read_svg (if b then svg_bytes page pens strokes areas labels else sheets_bytes page pens strokes areas (end ∷ ends) labels)) some
+    ∙ sheet_bytes_read page pens strokes areas (end ∷ ends) labels near apart beside among

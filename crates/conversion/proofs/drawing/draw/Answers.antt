@@ -1,4 +1,4 @@
-use Rattle.std.proofs.Common.{sym}
+use Rattle.std.proofs.Common.{◌∙◌, sym}
 use Rattle.conversion.specs.Rules.{rules_in}
 use Rattle.conversion.proofs.Turns.{turned_so, unturned_so}
 use Rattle.conversion.proofs.drawing.draw.Goals as goal
@@ -11,6 +11,7 @@ returns-in-Ok g c =
     record {
       draws = turned_so (rules_in setup) setup.choice c.args.request.now.picture.now was is setup.turn c.in_default.not-None c.pens_of.result c.pens_of.ensures
           c.in_ok-drawing.drawing c.in_ok-drawing.ensures.draws c.in-Ok.turned c.in-Ok.ensures.turned;
+      counts = c.in-Ok.ensures.turned.counts_is ∙ c.in_ok-drawing.ensures.counts;
       end = c.in_ok-drawing.ensures.end;
     }
 
@@ -22,5 +23,6 @@ returns g c =
     record {
       draws = unturned_so (rules_in setup) setup.choice c.args.request.now.picture.now was is setup.turn c.in_default.not-None c.pens_of.result c.pens_of.ensures
           c.in_ok-drawing.drawing c.in_ok-drawing.ensures.draws (sym c.in-Err.ensures.decides);
+      counts = tt;
       end = c.in_ok-drawing.ensures.end;
     }
