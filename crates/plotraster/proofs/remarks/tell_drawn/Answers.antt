@@ -1,5 +1,5 @@
 use Rattle.plotraster.proofs.Said.{one_remark}
 use Rattle.plotraster.proofs.remarks.tell_drawn.Goals as goal
 
-pub returns-then-line : goal.returns-then-line
-returns-then-line g c = one_remark g.V.Voice.does _ _ _ c.remark.ensures
+pub returns-in-Some : goal.returns-in-Some
+returns-in-Some g c = one_remark g.V.Voice.does _ _ _ c.remark.ensures
