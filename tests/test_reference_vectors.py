@@ -9,7 +9,7 @@ import pytest
 from reference import messages
 from reference.fills import BY_ODD_COUNTS, BY_WINDING
 from reference.outputs import answer
-from reference.pdf import HEADER, read_pdf
+from reference.pdf import HEADERS, read_pdf
 from reference.reading import Wrong
 from reference.svg import read_svg
 from reference.vectors import Document, FilledPath, Line
@@ -117,7 +117,7 @@ def with_streams(objects, contents):
 
 def pdf_of(objects):
     """A document of these objects."""
-    data, table = HEADER, b"0000000000 65535 f \n"
+    data, table = HEADERS[False], b"0000000000 65535 f \n"
     for number, text in enumerate(objects, 1):
         table += b"%010d 00000 n \n" % len(data)
         data += b"%d 0 obj\n%s\nendobj\n" % (number, text)
