@@ -29,7 +29,7 @@ grouped group parameter text = some_commands (chain (length text) group paramete
 abbrev pub is_group : ℕ → Bool
 is_group b = nat_le 33 b && nat_le b 47 && not (b == byte "%") && not (b == byte ".")
 
--- a byte that is an escape alone
+-- a byte that is an escape of its own
 abbrev pub is_alone : ℕ → Bool
 is_alone b = nat_le 48 b && nat_le b 126
 

@@ -63,8 +63,8 @@ pub fn begins_group(byte: u8) -> bool
     33 <= byte && byte <= 47 && !(byte == b'%') && !(byte == b'.')
 }
 
-/// Whether the byte is an escape alone.
-pub fn stands_alone(byte: u8) -> bool
+/// Whether the byte is an escape of its own.
+pub fn is_alone(byte: u8) -> bool
     ensures { result ≡ is_alone byte }
 {
     48 <= byte && byte <= 126

@@ -19,7 +19,7 @@ pub enum Sign {
 /// A command of an escape.
 #[derive(Clone, Copy)]
 pub struct Command<'a> {
-    /// The byte after the ESC: a group, or `%`. None if the letter is a byte that stands alone after the ESC, as in ESC `E`.
+    /// The byte after the ESC: a group, or `%`. None if the letter is an escape of its own, as in ESC `E`.
     pub group: Option<u8>,
     /// The small letter after the group.
     pub parameter: Option<u8>,

@@ -3,9 +3,9 @@ ghost use Rattle.std.specs.Prelude.{◌≡◌, ◌<◌, ◌≤◌, [], ◌∷◌
 ghost use Rattle.escapes.specs.Escapes.{alone, chain, minus_length, language, escape, escape_length};
 ghost use Rattle.hpgl_text.specs.Bytes.{begins_with};
 ghost use Rattle.escapes.specs.declared.command.Sign.TheVariants.{Unsigned, Minus};
-ghost use Rattle.escapes.specs.Views.{all_of};
+ghost use Rattle.escapes.specs.Views.{left, all_of};
 
-use crate::bytes::{after, begins_group, byte_at, is_large_letter, is_small_letter, stands_alone};
+use crate::bytes::{after, begins_group, byte_at, is_alone, is_large_letter, is_small_letter};
 use crate::command::{Command, Sign};
 use crate::finished::finish;
 use crate::value::{first_integer, first_value};
@@ -28,6 +28,22 @@ pub struct Step<'a> {
     pub rest: &'a [u8],
 }
 
+impl<'a> Step<'a> {
+    /// The next command of the escape. None after the last one, and if the group breaks off: then the escape ends where the
+    /// rest begins.
+    pub fn following(self) -> Option<Step<'a>>
+        ensures value { MatchOption result
+            (left self.entry.more self.entry.rest.now ≡ ([], self.entry.rest.now))
+            (λ next. left self.entry.more self.entry.rest.now ≡ all_of next) }
+        ensures shorter { IfSome result (λ next. length next.rest.now < length self.entry.rest.now) }
+    {
+        match self.more {
+            None => None,
+            Some(group) => next_step(group, self.rest),
+        }
+    }
+}
+
 /// The first command of an escape, from the byte after the ESC on. None if the ESC is a stray, or if a device control follows
 /// (`.`).
 pub fn first_step<'a>(text: &'a [u8]) -> Option<Step<'a>>
@@ -35,7 +51,7 @@ pub fn first_step<'a>(text: &'a [u8]) -> Option<Step<'a>>
     ensures shorter { IfSome result (λ s. length s.rest.now < length text.now) }
 {
     let first = byte_at(text, 0);
-    if stands_alone(first) {
+    if is_alone(first) {
         return Some(alone(first, after(text, 1)));
     }
     if first == b'%' {
@@ -63,7 +79,7 @@ pub fn first_step<'a>(text: &'a [u8]) -> Option<Step<'a>>
     )
 }
 
-/// The next command of a group that goes on. None if it breaks off, and then the escape ends where the text begins.
+/// The next command of a group that goes on. None if it breaks off.
 pub fn next_step<'a>(of: Chain, text: &'a [u8]) -> Option<Step<'a>>
     ensures value { MatchOption result (chain (length text.now) of.group of.parameter text.now ≡ ([], text.now))
         (λ s. chain (length text.now) of.group of.parameter text.now ≡ all_of s) }
@@ -104,16 +120,11 @@ fn last_rest<'a>(first: Step<'a>) -> &'a [u8]
     ensures value { result.now ≡ (all_of first.entry).1 }
     ensures within { length result.now ≤ length first.entry.rest.now }
 {
-    let mut rest = first.rest;
-    let mut more = first.more;
-    'commands: while let Some(group) = more {
-        let Some(next) = next_step(group, rest) else {
-            break;
-        };
-        rest = next.rest;
-        more = next.more;
+    let mut last = first;
+    'commands: while let Some(next) = last.following() {
+        last = next;
     }
-    rest
+    last.rest
 }
 
 // The group, if it goes on.
@@ -123,7 +134,7 @@ fn more_of(goes_on: bool, of: Chain) -> Option<Chain>
     if goes_on { Some(of) } else { None }
 }
 
-// A byte that is an escape alone.
+// A byte that is an escape of its own.
 fn alone<'a>(letter: u8, rest: &'a [u8]) -> Step<'a>
     ensures value { all_of result ≡ (alone letter ∷ [], rest.now) }
     ensures rest { result.rest.now ≡ rest.now }

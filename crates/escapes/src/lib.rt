@@ -9,4 +9,4 @@ pub mod laws;
 mod value;
 
 pub use command::{Command, GREATEST_INTEGER, Sign};
-pub use escape::{Chain, Step, escape_length, first_step, next_step};
+pub use escape::{Chain, Step, escape_length, first_step};

@@ -1,6 +1,6 @@
 // Escapes cut into their commands. The cases follow HP's PCL 5 and HP RTL manuals and the drivers that write them.
 use crate::texts::has_text;
-use escapes::{Command, GREATEST_INTEGER, Sign, escape_length, first_step, next_step};
+use escapes::{Command, GREATEST_INTEGER, Sign, escape_length, first_step};
 use std::alloc::{AllocError, Global};
 use std::process::Abort;
 use std::test::Fail;
@@ -169,10 +169,7 @@ fn push_commands(line: &mut String, text: &[u8]) -> Result<usize, Fail> {
         };
         push_command(line, &found.command)?;
         left = found.rest.len();
-        step = match found.more {
-            Some(group) => next_step(group, found.rest),
-            None => None,
-        };
+        step = found.following();
     }
     Ok(left)
 }

@@ -1,6 +1,6 @@
 // What escapes ask, by the printed forms of requests. The numbers and ranges are those of HP's RTL and PCL 5 manuals, or our choice.
 use crate::texts::has_text;
-use escapes::{first_step, next_step};
+use escapes::first_step;
 use raster_requests::{GREATEST_WIDTH, Request};
 use std::alloc::{AllocError, Global};
 use std::process::Abort;
@@ -186,10 +186,7 @@ fn push_requests(line: &mut String, text: &[u8]) -> Result<(), Fail> {
             line.push_str("; ")?;
         }
         push_request(line, Request::of(&found.command))?;
-        step = match found.more {
-            Some(group) => next_step(group, found.rest),
-            None => None,
-        };
+        step = found.following();
     }
     Ok(())
 }
