@@ -51,7 +51,8 @@ def language(text, at):
         return None
     value = min(int(found[2] or b"0"), GREATEST) * MILLION
     command = Command("%", chr(found[3][0]).upper(), -value if found[1] else value, found[1].decode())
-    return [command], found.end()
+    command, end = with_data(command, text, found.end())
+    return [command], end
 
 
 def chain(text, at):
@@ -65,11 +66,17 @@ def chain(text, at):
             break
         goes_on, end = letter >= 96, value.end() + 1
         command = Command(group, chr(letter - 32 if goes_on else letter), millionths(value), value[1].decode())
-        if command.letter == "W" or (group, command.letter) in (("*b", "V"), ("&p", "X")):
-            data = text[end : end + max(0, command.rounded())]
-            command, end = command._replace(data=data), end + len(data)
+        command, end = with_data(command, text, end)
         commands.append(command)
     return (commands, end) if commands else None
+
+
+def with_data(command, text, at):
+    """A command with its data, if it has any, which begin at a place, and the place after them."""
+    if command.letter == "W" or (command.group, command.letter) in (("*b", "V"), ("&p", "X")):
+        data = text[at : at + max(0, command.rounded())]
+        return command._replace(data=data), at + len(data)
+    return command, at
 
 
 def millionths(value):
