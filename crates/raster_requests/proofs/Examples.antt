@@ -28,7 +28,7 @@ asked text = asked_by (escape text)
 
 -- an image of three planes, as drivers begin it
 begin : asked (codes "*t300R") ++ asked (codes "*r-3u8s2t1A") ≡ Set (Resolution 300) ∷ Set (Coding CyanMagentaYellow) ∷ Set
-    (Width (Some 8)) ∷ Set (Height (Some 2)) ∷ Start AtPlace ∷ []
+    (Width (Some 8)) ∷ Set (Height (Some 2)) ∷ Start (Some AtPlace) ∷ []
 unfolding chain asked_by asked
 begin = refl
 
@@ -69,7 +69,7 @@ colours = refl
 ranges : asked (codes "*t9.5r9.4R") ++ asked (codes "*r2u9999999s-3s0T") ++ asked (codes "*r-.5a3.5A") ++ asked
     (codes "&u600d9D") ≡
     Set (Resolution 10) ∷ Set OutOfRange ∷ Set OutOfRange ∷ Set (Width (Some 1048576)) ∷ Set (Width None) ∷ Set (Height None)
-    ∷ Start AtMargin ∷ Bad ∷ request.Unit 600 ∷ Bad ∷ []
+    ∷ Start (Some AtMargin) ∷ Start None ∷ request.Unit 600 ∷ Bad ∷ []
 unfolding chain asked_by asked
 ranges = refl
 

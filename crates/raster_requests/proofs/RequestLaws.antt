@@ -4,7 +4,6 @@ use Rattle.std.specs.Prelude.{ℤ, pos, neg_ℤ, negsuc, ◌*ℤ◌, ◌≤ℤ�
 use Rattle.std.specs.Ordering.{int_eq}
 use Rattle.std.proofs.lemmas.Bool.{true≢false}
 use Rattle.std.proofs.lemmas.Int.{ints}
-use Rattle.raster_requests.specs.declared.image.Corner.{Corner}
 use Rattle.exact.specs.Fraction.{round, quotient}
 use Rattle.exact.specs.Ranges.{is_between}
 use Rattle.exact.proofs.Between.{exactly, at_most}
@@ -16,8 +15,8 @@ use Rattle.raster_requests.specs.declared.image.TheConstants.{GREATEST_WIDTH}
 use Rattle.raster_requests.specs.declared.image.ImageSetting.TheVariants.{Resolution, Width, Height}
 use Rattle.raster_requests.specs.declared.request.Request.TheVariants.{Set, MoveRows, PaletteEntry, Unit}
 use Rattle.raster_requests.specs.Values.{signed_value, whole_value, with_sign}
-use Rattle.raster_requests.specs.Images.{rows_moved, above_0, resolution_of, width_of, height_of, coding_of, transparency_of, corner_of}
-use Rattle.raster_requests.specs.Requests.{asked_of, unit_of, asked_of_rows, asked_of_place, asked_of_colours, asked_of_decipoints, asked_of_resolution, asked_of_image, asked_of_page, asked_of_language, asked_of_unit, asked_of_pcl, asked_of_raster, started}
+use Rattle.raster_requests.specs.Images.{rows_moved, above_0, resolution_of, width_of, height_of, coding_of, transparency_of}
+use Rattle.raster_requests.specs.Requests.{asked_of, unit_of, asked_of_rows, asked_of_place, asked_of_colours, asked_of_decipoints, asked_of_resolution, asked_of_image, asked_of_page, asked_of_language, asked_of_unit, asked_of_pcl, asked_of_raster}
 use Rattle.raster_requests.specs.Laws.{DataAreNotRead, IsAsWritten, HasData, RequestsAreAsWritten, WholeValuesAreKept, DataAreRoundedAlike}
 
 not_read : (group : Option ℕ) (command : Said) (input : List ℕ) → asked_of group
@@ -140,10 +139,6 @@ decipoints_written command =
     (λ _. by_if (IsAsWritten command) (command.letter == byte "V") _ _ (λ _. (refl, refl))
     (λ _. tt))
 
-started_written : (command : Said) (corner : Option Corner) → IsAsWritten command (started corner)
-started_written command None = tt
-started_written command (Some corner) = tt
-
 coding_written : (command : Said) (n : ℤ) → IsAsWritten command (Set (coding_of n))
 coding_written command n =
     by_if (λ z. IsAsWritten command (Set z)) (int_eq n (pos 1) || int_eq n (negsuc 0)) _ _ (λ _. tt)
@@ -161,7 +156,7 @@ resolution_written command n = by_if (λ z. IsAsWritten command (Set z)) (is_bet
 
 image_written : (command : Said) → IsAsWritten command (asked_of_image command.letter (whole_value command))
 image_written command =
-    by_if (IsAsWritten command) (command.letter == byte "A") _ _ (λ _. started_written command (corner_of (whole_value command)))
+    by_if (IsAsWritten command) (command.letter == byte "A") _ _ (λ _. tt)
     (λ _. by_if (IsAsWritten command) (command.letter == byte "B") _ _ (λ _. tt)
     (λ _. by_if (IsAsWritten command) (command.letter == byte "C") _ _ (λ _. tt)
     (λ _. by_if (IsAsWritten command) (command.letter == byte "S") _ _ (λ _. tt)

@@ -5,7 +5,6 @@ use Rattle.exact.specs.Ranges.{is_between}
 use Rattle.hpgl_text.specs.Bytes.{byte}
 use Rattle.escapes.specs.Commands.{Said, is_byte}
 use Rattle.raster_requests.specs.declared.image.Primary.TheVariants.{First, Second, Third}
-use Rattle.raster_requests.specs.declared.image.Corner.{Corner}
 use Rattle.raster_requests.specs.declared.image.ImageSetting.TheVariants.{Configuration}
 use Rattle.raster_requests.specs.declared.place.Axis.TheVariants.{AlongRow, AcrossRows}
 use Rattle.raster_requests.specs.declared.place.PlaceUnit.TheVariants.{Unit, Decipoint}
@@ -71,14 +70,10 @@ asked_of_place letter command =
     if letter == byte "Y" then request.Place (place_change AcrossRows Unit command) else
     request.Skipped
 
-abbrev pub started : Option Corner → Request
-started None = request.Bad
-started (Some corner) = request.Start corner
-
 -- *r: images; F, L and Q have no effect
 abbrev pub asked_of_image : ℕ → ℤ → Request
 asked_of_image letter n =
-    if letter == byte "A" then started (corner_of n) else
+    if letter == byte "A" then request.Start (corner_of n) else
     if letter == byte "B" then request.End else
     if letter == byte "C" then request.EndAndReset else
     if letter == byte "S" then request.Set (width_of n) else

@@ -3,7 +3,7 @@ ghost use Rattle.std.specs.Prelude.{◌≡◌, ◌≤◌, nat_abs};
 ghost use Rattle.escapes.specs.Views.{said};
 ghost use Rattle.raster_requests.specs.Requests.{asked_alone, asked_of_language, asked_of_decipoints, asked_of_page};
 ghost use Rattle.raster_requests.specs.Requests.{unit_of, asked_of_unit, asked_of_pcl, asked_of_rows, asked_of_place};
-ghost use Rattle.raster_requests.specs.Requests.{started, asked_of_image, asked_of_resolution, asked_of_colours};
+ghost use Rattle.raster_requests.specs.Requests.{asked_of_image, asked_of_resolution, asked_of_colours};
 ghost use Rattle.raster_requests.specs.Requests.{asked_of_raster, request_of};
 ghost use Rattle.raster_requests.specs.Ranges.{IsInRange};
 
@@ -21,8 +21,8 @@ use image_rows::Compression;
 pub enum Request {
     /// A setting of the whole image.
     Set(ImageSetting),
-    /// `*r` A (Start Raster Graphics): an image begins, in HP RTL.
-    Start(Corner),
+    /// `*r` A (Start Raster Graphics): an image begins, in HP RTL. None if the number is out of range.
+    Start(Option<Corner>),
     /// `*r` B (End Raster Graphics): the image ends.
     End,
     /// `*r` C (End Raster Graphics): the image ends, and rows are unencoded again.
@@ -51,7 +51,7 @@ pub enum Request {
     EndPage,
     /// Nothing: the command is known, and has no effect on a plot.
     Nothing,
-    /// Nothing: a value is out of range.
+    /// Nothing: the value of `&u` D is out of range.
     Bad,
     /// Nothing: the command is not known.
     Skipped,
@@ -204,7 +204,7 @@ fn asked_of_image(letter: u8, number: i64) -> Request
     ensures ranges { IsInRange result }
 {
     match letter {
-        b'A' => started(corner_of(number)),
+        b'A' => Request::Start(corner_of(number)),
         b'B' => Request::End,
         b'C' => Request::EndAndReset,
         b'S' => Request::Set(width_of(number)),
@@ -212,16 +212,6 @@ fn asked_of_image(letter: u8, number: i64) -> Request
         b'U' => Request::Set(coding_of(number)),
         b'F' | b'L' | b'Q' => Request::Nothing,
         _ => Request::Skipped,
-    }
-}
-
-// The begin of an image.
-fn started(corner: Option<Corner>) -> Request
-    ensures { result ≡ started corner }
-{
-    match corner {
-        None => Request::Bad,
-        Some(corner) => Request::Start(corner),
     }
 }
 

@@ -52,14 +52,14 @@ const PLANES: &str = "\
 ";
 
 const IMAGES: &str = "\
-*r0A = Start(AtMargin)
-*rA = Start(AtMargin)
-*r1A = Start(AtPlace)
-*r2A = Start(AtMargin)
-*r3A = Start(AtPlace)
-*r4A = Bad
-*r-1A = Bad
-*r-.5A = Start(AtMargin)
+*r0A = Start(Some(AtMargin))
+*rA = Start(Some(AtMargin))
+*r1A = Start(Some(AtPlace))
+*r2A = Start(Some(AtMargin))
+*r3A = Start(Some(AtPlace))
+*r4A = Start(None)
+*r-1A = Start(None)
+*r-.5A = Start(Some(AtMargin))
 *rB = End
 *r1B = End
 *rC = EndAndReset
@@ -68,8 +68,8 @@ const IMAGES: &str = "\
 *r1Q = Nothing
 *r1D = Skipped
 *r3W123 = Skipped
-*r3u8s1A = Set(Coding(RedGreenBlue)); Set(Width(Some(8))); Start(AtPlace)
-*r9a1G = Bad; Skipped
+*r3u8s1A = Set(Coding(RedGreenBlue)); Set(Width(Some(8))); Start(Some(AtPlace))
+*r9a1G = Start(None); Skipped
 ";
 
 const ROWS: &str = "\
