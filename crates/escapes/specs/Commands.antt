@@ -39,13 +39,13 @@ capped written = min (digits_sum written) GREATEST_INTEGER
 abbrev pub millionths_of : List ℕ → ℕ
 millionths_of text = capped (integer_part text) * 10 ^ 6 + decimals_sum 6 (decimals text)
 
--- each value is below this, in millionths
-abbrev pub value_limit : ℕ
-value_limit = (GREATEST_INTEGER + 1) * 10 ^ 6
-
 -- what follows it
 abbrev pub after_value : List ℕ → List ℕ
 after_value text = drop (length (decimals text)) (drop (point_length (fraction text)) (fraction text))
+
+-- each value is below this, in millionths
+abbrev pub value_limit : ℕ
+value_limit = (GREATEST_INTEGER + 1) * 10 ^ 6
 
 -- it is this byte
 abbrev pub is_byte : Option ℕ → ℕ → Bool

@@ -13,7 +13,9 @@ use crate::value::{first_integer, first_value};
 /// A group of commands that goes on.
 #[derive(Clone, Copy)]
 pub struct Chain {
+    /// The byte that begins it.
     pub group: u8,
+    /// The small letter after that.
     pub parameter: Option<u8>,
 }
 
@@ -79,8 +81,8 @@ pub fn first_step<'a>(text: &'a [u8]) -> Option<Step<'a>>
     )
 }
 
-/// The next command of a group that goes on. None if it breaks off.
-pub fn next_step<'a>(of: Chain, text: &'a [u8]) -> Option<Step<'a>>
+// The next command of a group that goes on. None if it breaks off.
+fn next_step<'a>(of: Chain, text: &'a [u8]) -> Option<Step<'a>>
     ensures value { MatchOption result (chain (length text.now) of.group of.parameter text.now ≡ ([], text.now))
         (λ s. chain (length text.now) of.group of.parameter text.now ≡ all_of s) }
     ensures shorter { IfSome result (λ s. length s.rest.now < length text.now) }
