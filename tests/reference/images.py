@@ -253,8 +253,10 @@ class Rtl:
     def set_entry(self, command):
         """An entry of a palette that may be changed, by parts of so many bits."""
         number, parts, self.parts = command.rounded(), self.parts, [0, 0, 0]
-        if self.parts_of is None or not 0 <= number < len(self.coding.palette):
+        if not 0 <= number < len(self.coding.palette):
             raise Bad
+        if self.parts_of is None:
+            return
         channels = [min(255, max(0, rounded(255 * part, 2**bits - 1))) for part, bits in zip(parts, self.parts_of)]
         colour = tuple(255 - it if self.coding.is_cmy else it for it in channels)
         palette = list(self.coding.palette)
@@ -338,6 +340,8 @@ class Rtl:
     def end_row(self, planes):
         image = self.open
         image.planes = []
+        if planes is None:
+            self.seeds = []
         if self.is_past():
             return
         image.rows.append(planes)

@@ -12,9 +12,13 @@ mod code_points;
 #[cfg(test)]
 mod colours;
 #[cfg(test)]
+mod dots_of_images;
+#[cfg(test)]
 mod escapes_cut;
 #[cfg(test)]
 mod further;
+#[cfg(test)]
+mod images_made;
 #[cfg(test)]
 mod item_cases;
 #[cfg(test)]

@@ -1,0 +1,3 @@
+mod ColourExamples
+pub mod Indices
+pub mod DotLaws

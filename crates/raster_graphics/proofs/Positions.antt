@@ -1,0 +1,55 @@
+-- Rows that are passed, one after another.
+use Rattle.std.proofs.Common.{◌≡◌, ◌≢◌, ◌∙◌, sym, ap, refl, ℕ, suc, ◌+◌, ◌<◌, ◌≤◌, Bool, cond, ◌==◌, List, [], length, drop, get_or, Option, Some, None, option_map, arith}
+use Rattle.std.proofs.lemmas.Bool.{ne_eqb, eq-eqb}
+use Rattle.std.proofs.Math.Seq.{drop-cons}
+use Rattle.std.proofs.Math.ListN.{drop_of_length-le}
+use Rattle.raster_graphics.specs.Positions.{position_of}
+
+-- a position that so many come before
+abbrev pub later : ℕ → Option ℕ → Option ℕ
+later count found = option_map (λ k. k + count) found
+
+later_none : (found : Option ℕ) → found ≡ later 0 found
+later_none None = refl
+later_none (Some k) = let e : k ≡ k + 0 = omega arith in ap Some e
+
+later_more : (count : ℕ) (found : Option ℕ) → later count (option_map (λ k. k + 1) found) ≡ later (count + 1) found
+later_more count None = refl
+later_more count (Some k) = let e : (k + 1) + count ≡ k + (count + 1) = omega arith in ap Some e
+
+pub none_passed : (row : ℕ) (numbers : List ℕ) → position_of row numbers ≡ later 0 (position_of row numbers)
+none_passed row numbers = later_none (position_of row numbers)
+
+at_next : (row position : ℕ) (numbers : List ℕ) → position < length numbers
+    → position_of row (drop position numbers) ≡ cond (get_or numbers position 0 == row) (Some 0) (option_map (λ k. k + 1)
+    (position_of row (drop (suc position) numbers)))
+unfolding position_of
+at_next row position numbers h = ap (position_of row) (drop-cons numbers position 0 h)
+
+pub one_passed : (row position : ℕ) (numbers : List ℕ) → position < length numbers → get_or numbers position 0 ≢ row
+    → position_of row numbers ≡ later position (position_of row (drop position numbers))
+    → position_of row numbers ≡ later (position + 1) (position_of row (drop (position + 1) numbers))
+one_passed row position numbers h other e =
+    let next : suc position ≡ position + 1 = omega arith in
+    e ∙ ap (later position) (at_next row position numbers h
+    ∙ ap (λ (b : Bool). cond b (Some 0) (option_map (λ k. k + 1) (position_of row (drop (suc position) numbers)))) (ne_eqb
+    (get_or numbers position 0) row other))
+    ∙ later_more position (position_of row (drop (suc position) numbers))
+    ∙ ap (λ (n : ℕ). later (position + 1) (position_of row (drop n numbers))) next
+
+pub found_at : (row position : ℕ) (numbers : List ℕ) → position < length numbers → get_or numbers position 0 ≡ row
+    → position_of row numbers ≡ later position (position_of row (drop position numbers)) → Some position ≡ position_of row numbers
+found_at row position numbers h here e =
+    sym (e ∙ ap (later position) (at_next row position numbers h
+    ∙ ap (λ (b : Bool). cond b (Some 0) (option_map (λ k. k + 1) (position_of row (drop (suc position) numbers)))) (eq-eqb
+    (get_or numbers position 0) row here))
+    ∙ ap Some (let same : 0 + position ≡ position = omega arith in same))
+
+pub none_found : (row position : ℕ) (numbers : List ℕ) → length numbers ≤ position
+    → position_of row numbers ≡ later position (position_of row (drop position numbers)) → None ≡ position_of row numbers
+unfolding position_of
+none_found row position numbers h e = sym (e
+    ∙ ap (λ (z : List ℕ). later position (position_of row z)) (drop_past numbers position h))
+  where
+    drop_past : (xs : List ℕ) (n : ℕ) → length xs ≤ n → drop n xs ≡ []
+    drop_past xs n h = drop_of_length-le xs h

@@ -1,0 +1,58 @@
+//! The dots of an image that is done.
+ghost use Rattle.std.specs.Prelude.{◌≡◌, ◌^◌, ◌<◌};
+ghost use Rattle.raster_graphics.specs.Dots.{colour_in, colour_at, is_white, if_shown, shown_at};
+
+use crate::image::Image;
+use image_colours::{Colour, colour_of};
+
+impl Image {
+    /// The colour of a dot, if its row was sent and has it; rows and columns are counted from 0.
+    pub fn colour_at(&self, row: u32, column: u32) -> Option<Colour>
+        ensures { result ≡ colour_at self.now row column }
+    {
+        if column as u64 >= self.width {
+            return None;
+        }
+        let position = self.numbers.position_of(row)?;
+        Some(self.colour_in(position, column))
+    }
+
+    /// The colour that it shows at a dot: none where its row was not sent or has no such dot, and, unless white is opaque, where
+    /// that is white.
+    pub fn shown_at(&self, row: u32, column: u32) -> Option<Colour>
+        ensures { result ≡ shown_at self.now row column }
+    {
+        let colour = self.colour_at(row, column)?;
+        if self.settings.is_opaque || !is_white(colour) {
+            Some(colour)
+        } else {
+            None
+        }
+    }
+
+    /// The colour of a dot of the row at a position among those that were sent.
+    pub fn colour_in(&self, position: usize, column: u32) -> Colour
+        requires { position < 2 ^ 61 }
+        ensures { result ≡ colour_in self.now position column }
+    {
+        let coding = self.settings.coding;
+        let first = position * coding.plane_count();
+        let planes = [
+            self.planes.get(first),
+            self.planes.get(first + 1),
+            self.planes.get(first + 2),
+            self.planes.get(first + 3),
+            self.planes.get(first + 4),
+            self.planes.get(first + 5),
+            self.planes.get(first + 6),
+            self.planes.get(first + 7),
+        ];
+        colour_of(coding, &self.settings.palette, &planes, column)
+    }
+}
+
+fn is_white(colour: Colour) -> bool
+    ensures { result ≡ is_white colour }
+{
+    colour.red == 255 && colour.green == 255 && colour.blue == 255
+}
