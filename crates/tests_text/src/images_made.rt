@@ -109,7 +109,10 @@ fn obey_all<'a>(
 ) -> Result<&'a [u8], Fault> {
     let mut rest = text;
     let mut step: Option<Step<'a>> = first_step(text);
-    while let Some(found) = step {
+    for _ in 0..=text.len() {
+        let Some(found) = step else {
+            break;
+        };
         let request = Request::of(&found.command);
         let answer = machine.obey(alloc, request, found.command.input)?;
         did.push_str(letter_of(answer))?;
@@ -122,12 +125,15 @@ fn obey_all<'a>(
 // Has a machine obey all escapes of a text, to its end.
 fn run(alloc: Global, machine: &mut Machine, text: &[u8], did: &mut String) -> Result<(), Fault> {
     let mut rest = text;
-    while !rest.is_empty() {
-        let first = rest[0];
-        rest = &rest[1..];
-        if first == 27 {
-            rest = obey_all(alloc, machine, rest, did)?;
-        }
+    for _ in 0..text.len() {
+        let [first, more @ ..] = rest else {
+            break;
+        };
+        rest = if *first == 27 {
+            obey_all(alloc, machine, more, did)?
+        } else {
+            more
+        };
     }
     machine.close()
 }
@@ -180,10 +186,8 @@ fn is_as(rt: &impl Abort, image: &Image, wanted: &str) -> Result<(), Fail> {
         image.settings.resolution.number() as i32 == integer(words.next())?,
         "{wanted}"
     );
-    assert!(rt;
-        image.width as i64 == integer(words.next())? as i64,
-        "{wanted}"
-    );
+    let width = words.next().ok_or("a width is lacking")?;
+    assert!(rt; image.width == width.parse::<u64>()?, "{wanted}");
     let mut rows: usize = 0;
     let mut next: u32 = 0;
     for word in words {
