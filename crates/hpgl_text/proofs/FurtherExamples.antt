@@ -1,13 +1,13 @@
 -- The cut in the profile full, at some texts.
 use Rattle.std.proofs.Common.{◌≡◌, refl, ℕ, pos, List, [], ◌∷◌, ◌++◌, codes, Some, None, true, false}
 use Rattle.exact.proofs.Tables.{Table}
-use Rattle.hpgl_text.specs.Shapes.{ItemShape, BodyShape, Params, Further, Label, Terminator, Kept, Symbol, Known, Skipped, Bad, Stray}
-use Rattle.hpgl_text.specs.declared.instruction.Instruction.TheVariants.{Initialize, PenColour, PenDown, PenUp}
-use Rattle.hpgl_text.specs.declared.further.Further.TheVariants.{LineType, ColourRange, EndSheet, BeginPlot, PrintBuffer, StandardSet, AlternateSet, StandardFont, AlternateFont, SelectStandard, SelectAlternate}
+use Rattle.hpgl_text.specs.Shapes.{ItemShape, BodyShape, Params, Further, Damaged, DamagedCurves, Label, Terminator, Kept, Symbol, Known, Skipped, Bad, Stray}
+use Rattle.hpgl_text.specs.declared.instruction.Instruction.TheVariants.{Initialize, PenColour, PenDown, PenUp, PlotAbsolute, PlotRelative}
+use Rattle.hpgl_text.specs.declared.further.Further.TheVariants.{LineType, ColourRange, BezierAbsolute, BezierRelative, EndSheet, BeginPlot, PrintBuffer, StandardSet, AlternateSet, StandardFont, AlternateFont, SelectStandard, SelectAlternate}
 use Rattle.hpgl_text.specs.declared.profile.Profile.TheVariants.{Core, Full}
 use Rattle.hpgl_text.specs.Mnemonics.{kind_of}
 use Rattle.hpgl_text.specs.Cut.{cut, cut_by}
-use Rattle.hpgl_text.specs.Laws.{without_mode}
+use Rattle.hpgl_text.specs.Laws.{as_in_core}
 use Rattle.hpgl_text.specs.Terminators.{unprinted, named_with_mode}
 
 abbrev full : List ℕ → List ItemShape
@@ -42,13 +42,30 @@ instructions : Table full (
     ∷ [])
 instructions = refl
 
+-- moves and curves before a wrong byte
+damaged_ones : Table full (
+    -- a pair and a number
+    (codes "PD10,20,3?0,9;PU", item 0 (codes "PD") (Damaged PenDown (pos 10000000 ∷ pos 20000000 ∷ pos 3000000 ∷ [])) ∷ item 14 (codes "PU") (Params PenUp []) ∷ [])
+    ∷ (codes "PD:;PU", item 0 (codes "PD") (Damaged PenDown []) ∷ item 4 (codes "PU") (Params PenUp []) ∷ [])  -- no number
+    ∷ (codes "PA1,-;", item 0 (codes "PA") (Damaged PlotAbsolute (pos 1000000 ∷ [])) ∷ [])  -- a sign without digits
+    ∷ (codes "PR9999999,1;", item 0 (codes "PR") (Damaged PlotRelative []) ∷ [])  -- too large a number
+    ∷ (codes "BZ1:2;", item 0 (codes "BZ") (DamagedCurves BezierAbsolute (pos 1000000 ∷ [])) ∷ [])
+    ∷ (codes "BR:", item 0 (codes "BR") (DamagedCurves BezierRelative []) ∷ [])
+    ∷ (codes "EA1:2;", item 0 (codes "EA") Bad ∷ [])  -- others are bad
+    ∷ [])
+damaged_ones = refl
+
+-- the core has no such moves
+damaged_in_core : cut (codes "PD10,20:;") ≡ item 0 (codes "PD") Bad ∷ []
+damaged_in_core = refl
+
 -- in the core LT is unknown
 not_in_core : cut (codes "LT2:1;PU") ≡ item 0 (codes "LT") Skipped ∷ item 6 (codes "PU") (Params PenUp []) ∷ []
 not_in_core = refl
 
 -- which both profiles read alike, but for the mode of a DT
 abbrev SameKind : List ℕ → Type 0
-SameKind code = without_mode (kind_of Full code) ≡ kind_of Core code
+SameKind code = as_in_core (kind_of Full code) ≡ kind_of Core code
 
 same_kinds : SameKind (codes "IN") × SameKind (codes "DF") × SameKind (codes "IP") × SameKind (codes "SC") × SameKind (codes "RO") × SameKind (codes "IW") × SameKind (codes "SP") × SameKind (codes "PW") × SameKind (codes "PC") × SameKind (codes "PU") × SameKind (codes "PD") × SameKind (codes "PA") × SameKind (codes "PR") × SameKind (codes "PE") × SameKind (codes "EA") × SameKind (codes "ER") × SameKind (codes "CI") × SameKind (codes "AA") × SameKind (codes "AR") × SameKind (codes "SI") × SameKind (codes "DI") × SameKind (codes "LB") × SameKind (codes "DT") × SameKind (0 ∷ 0 ∷ [])
 same_kinds = (refl, refl, refl, refl, refl, refl, refl, refl, refl, refl, refl, refl, refl, refl, refl, refl, refl, refl, refl, refl, refl, refl, refl, refl)

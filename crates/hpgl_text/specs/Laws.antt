@@ -1,12 +1,12 @@
 -- Laws: a plot has one cut in each profile, the same in both if they read it alike, and a polyline few entries. For
 -- spelling see `Spellings.antt`.
-use Rattle.std.specs.Prelude.{◌≡◌, ◌↔◌, ℕ, ◌+◌, ◌<◌, ◌≤◌, Bool, false, List, [], ◌∷◌, ◌++◌, length, All}
+use Rattle.std.specs.Prelude.{◌≡◌, ◌↔◌, ℕ, ◌+◌, ◌<◌, ◌≤◌, Bool, true, false, List, [], ◌∷◌, ◌++◌, length, All}
 use Rattle.hpgl_text.specs.declared.mnemonic.Kind.{Kind}
-use Rattle.hpgl_text.specs.declared.mnemonic.Kind.TheVariants.{LabelEnd, LabelEndWithMode}
+use Rattle.hpgl_text.specs.declared.mnemonic.Kind.TheVariants.{LabelEnd, LabelEndWithMode, Moves, Parameters}
 use Rattle.hpgl_text.specs.declared.profile.Profile.{Profile}
 use Rattle.hpgl_text.specs.declared.profile.Profile.TheVariants.{Core, Full}
 use Rattle.hpgl_text.specs.Mnemonics.{kind_of}
-use Rattle.hpgl_text.specs.Shapes.{ItemShape, BodyShape, Terminator}
+use Rattle.hpgl_text.specs.Shapes.{ItemShape, BodyShape, Terminator, Damaged}
 use Rattle.hpgl_text.specs.Cut.{item_at, next_place, silent_at, cut, cut_by}
 use Rattle.hpgl_text.specs.Polylines.{entries}
 
@@ -30,20 +30,22 @@ abbrev pub OneCut : Type 0
 OneCut = (profile : Profile) (plot : List ℕ) (items : List ItemShape)
     → IsCut profile plot items ↔ (items ≡ cut_by profile plot)
 
--- what follows a mnemonic, but for the mode of a DT
-abbrev pub without_mode : Kind → Kind
-without_mode LabelEndWithMode = LabelEnd
-without_mode kind = kind
+-- what follows a mnemonic, but for the mode of a DT and for moves before a wrong byte
+abbrev pub as_in_core : Kind → Kind
+as_in_core LabelEndWithMode = LabelEnd
+as_in_core (Moves instruction) = Parameters instruction
+as_in_core kind = kind
 
--- the body is a terminator that is printed
-abbrev pub is_printing : BodyShape → Bool
-is_printing (Terminator end) = end.is_printed
-is_printing _ = false
+-- the body is a terminator that is printed, or moves before a wrong byte
+abbrev pub is_only_in_full : BodyShape → Bool
+is_only_in_full (Terminator end) = end.is_printed
+is_only_in_full (Damaged instruction numbers) = true
+is_only_in_full _ = false
 
--- both profiles read what follows the item's mnemonic in the same way: a DT has not the mode that prints
+-- both profiles read what follows the item's mnemonic in the same way: a DT has not the mode that prints, and moves no wrong byte
 pub record IsReadAlike (item : ItemShape) : Type 0 where
-  pub kind : without_mode (kind_of Full item.code) ≡ kind_of Core item.code
-  pub mode : is_printing item.body ≡ false
+  pub kind : as_in_core (kind_of Full item.code) ≡ kind_of Core item.code
+  pub whole : is_only_in_full item.body ≡ false
 
 -- a plot of such items has the same cut in both profiles
 abbrev pub CoreIsInFull : Type 0
