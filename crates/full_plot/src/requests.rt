@@ -9,8 +9,8 @@ ghost use Rattle.full_plot.specs.Machine.{seen, run, Runs};
 use crate::plotter::FullPlotter;
 use full_notes::noted_asked;
 use hpgl_plot::{NoteKind, Stop};
-use hpgl_text::{Instruction, Numbers};
-use plot_settings::{Moves, Request, request_of};
+use hpgl_text::{Instruction, Moves, Numbers};
+use plot_settings::{Request, request_of};
 
 impl FullPlotter {
     /// Carries out an instruction of core with its numbers, with its lines in the line type, and answers

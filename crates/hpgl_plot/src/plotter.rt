@@ -17,10 +17,10 @@ use crate::noting::{noted_kind, noted_parameters};
 use crate::place::{start_axes, start_of};
 use crate::state::State;
 use carousel::Carousel;
-use hpgl_text::{Body, Entries, Instruction, Item, Numbers, Part};
+use hpgl_text::{Body, Entries, Instruction, Item, Moves, Numbers, Part};
 use plot_frame::{Axis, Pair};
 use plot_page::{FARTHEST_END, FARTHEST_PLACE, Page, Stroke};
-use plot_settings::{Moves, Request, request_of};
+use plot_settings::{Request, request_of};
 use std::alloc::Global;
 
 /// Why an instruction is not carried out.

@@ -2,7 +2,7 @@
 use Rattle.std.proofs.Common.{◌≡◌, ℕ, ℤ, zero, suc, ◌+◌, ◌<◌, Bool, true, false, ◌||◌, ◌==◌, if◌then◌else◌, List, [], ◌∷◌, ◌++◌, length, drop, All, refl, arith, ap, sym, ◌∙◌, subst, inl, inr}
 use Rattle.std.proofs.lemmas.Bool.{cases_lt}
 use Rattle.std.proofs.lemmas.List.Elements.{All-head, All-tail}
-use Rattle.hpgl_text.specs.declared.instruction.Instruction.{Instruction}
+use Rattle.hpgl_text.specs.declared.moves.Moves.{Moves as MovesMade}
 use Rattle.hpgl_text.specs.declared.mnemonic.Kind.{Kind}
 use Rattle.hpgl_text.specs.declared.mnemonic.Kind.TheVariants.{LabelEndWithMode, Moves}
 use Rattle.hpgl_text.specs.declared.terminator.Terminator.{Terminator}
@@ -10,7 +10,7 @@ use Rattle.hpgl_text.specs.Bytes.{byte, escape, begins_with}
 use Rattle.hpgl_text.specs.Terminators.{unprinted, first_terminator, named_terminator, printed_if, begins_with_printing}
 use Rattle.hpgl_text.specs.declared.profile.Profile.TheVariants.{Core, Full}
 use Rattle.hpgl_text.specs.Mnemonics.{kind_of}
-use Rattle.hpgl_text.specs.Shapes.{ItemShape, BodyShape, Params, Damaged, Bad}
+use Rattle.hpgl_text.specs.Shapes.{ItemShape, BodyShape, Params, DamagedMoves, move_instruction, Bad}
 use Rattle.hpgl_text.specs.Shapes as shape
 use Rattle.hpgl_text.specs.Numbers.{numbers, past_numbers, ends_numbers}
 use Rattle.hpgl_text.specs.Items.{Content, content, parameters_length, Found, found, content_of, one_byte_length, code_of, first_item, begins_with_mnemonic}
@@ -40,16 +40,16 @@ same_by true printed body e h = refl
 same_by false printed body e h = same_printed printed body e h
 
 -- without a wrong byte moves have the parameters that core reads
-same_whole : (is_whole : Bool) (instruction : Instruction) (numbers : List ℤ) → is_only_in_full (if is_whole then Params instruction numbers else Damaged instruction numbers) ≡ false
-    → (if is_whole then Params instruction numbers else Damaged instruction numbers) ≡ (if is_whole then Params instruction numbers else Bad)
-same_whole true instruction numbers h = refl
-same_whole false instruction numbers h = absurd (cc h)
+same_whole : (is_whole : Bool) (moves : MovesMade) (numbers : List ℤ) → is_only_in_full (if is_whole then Params (move_instruction moves) numbers else DamagedMoves moves numbers) ≡ false
+    → (if is_whole then Params (move_instruction moves) numbers else DamagedMoves moves numbers) ≡ (if is_whole then Params (move_instruction moves) numbers else Bad)
+same_whole true moves numbers h = refl
+same_whole false moves numbers h = absurd (cc h)
 
 same_content : (kind : Kind) (t : Terminator) (at : ℕ) (text : List ℕ) → is_only_in_full (content_of kind t at text).body ≡ false → content_of kind t at text ≡ content_of (as_in_core kind) t at text
 same_content LabelEndWithMode t at text h =
     ap (λ (body : BodyShape). content body false (one_byte_length text)) (same_by (begins_with ";" text) (begins_with_printing (drop 1 text)) (named_terminator text) (named_is_not_printing text) h)
-same_content (Moves instruction) t at text h =
-    ap (λ (body : BodyShape). content body false (parameters_length text)) (same_whole (ends_numbers (past_numbers text)) instruction (numbers text) h)
+same_content (Moves moves) t at text h =
+    ap (λ (body : BodyShape). content body false (parameters_length text)) (same_whole (ends_numbers (past_numbers text)) moves (numbers text) h)
 same_content _ t at text h = refl
 
 alike_if : (b : Bool) (full core stray : Found) → (IsReadAlike full.item → full ≡ core) → IsReadAlike (if b then full else stray).item → (if b then full else stray) ≡ (if b then core else stray)

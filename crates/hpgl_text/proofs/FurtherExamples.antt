@@ -1,9 +1,10 @@
 -- The cut in the profile full, at some texts.
 use Rattle.std.proofs.Common.{◌≡◌, refl, ℕ, pos, List, [], ◌∷◌, ◌++◌, codes, Some, None, true, false}
 use Rattle.exact.proofs.Tables.{Table}
-use Rattle.hpgl_text.specs.Shapes.{ItemShape, BodyShape, Params, Further, Damaged, DamagedCurves, Label, Terminator, Kept, Symbol, Known, Skipped, Bad, Stray}
-use Rattle.hpgl_text.specs.declared.instruction.Instruction.TheVariants.{Initialize, PenColour, PenDown, PenUp, PlotAbsolute, PlotRelative}
-use Rattle.hpgl_text.specs.declared.further.Further.TheVariants.{LineType, ColourRange, BezierAbsolute, BezierRelative, EndSheet, BeginPlot, PrintBuffer, StandardSet, AlternateSet, StandardFont, AlternateFont, SelectStandard, SelectAlternate}
+use Rattle.hpgl_text.specs.Shapes.{ItemShape, BodyShape, Params, Further, DamagedMoves, DamagedCurves, Label, Terminator, Kept, Symbol, Known, Skipped, Bad, Stray}
+use Rattle.hpgl_text.specs.declared.instruction.Instruction.TheVariants.{Initialize, PenColour, PenDown, PenUp}
+use Rattle.hpgl_text.specs.declared.moves.Moves.TheVariants.{Down, Absolute, Relative}
+use Rattle.hpgl_text.specs.declared.further.Further.TheVariants.{LineType, ColourRange, EndSheet, BeginPlot, PrintBuffer, StandardSet, AlternateSet, StandardFont, AlternateFont, SelectStandard, SelectAlternate}
 use Rattle.hpgl_text.specs.declared.profile.Profile.TheVariants.{Core, Full}
 use Rattle.hpgl_text.specs.Mnemonics.{kind_of}
 use Rattle.hpgl_text.specs.Cut.{cut, cut_by}
@@ -45,12 +46,12 @@ instructions = refl
 -- moves and curves before a wrong byte
 damaged_ones : Table full (
     -- a pair and a number
-    (codes "PD10,20,3?0,9;PU", item 0 (codes "PD") (Damaged PenDown (pos 10000000 ∷ pos 20000000 ∷ pos 3000000 ∷ [])) ∷ item 14 (codes "PU") (Params PenUp []) ∷ [])
-    ∷ (codes "PD:;PU", item 0 (codes "PD") (Damaged PenDown []) ∷ item 4 (codes "PU") (Params PenUp []) ∷ [])  -- no number
-    ∷ (codes "PA1,-;", item 0 (codes "PA") (Damaged PlotAbsolute (pos 1000000 ∷ [])) ∷ [])  -- a sign without digits
-    ∷ (codes "PR9999999,1;", item 0 (codes "PR") (Damaged PlotRelative []) ∷ [])  -- too large a number
-    ∷ (codes "BZ1:2;", item 0 (codes "BZ") (DamagedCurves BezierAbsolute (pos 1000000 ∷ [])) ∷ [])
-    ∷ (codes "BR:", item 0 (codes "BR") (DamagedCurves BezierRelative []) ∷ [])
+    (codes "PD10,20,3?0,9;PU", item 0 (codes "PD") (DamagedMoves Down (pos 10000000 ∷ pos 20000000 ∷ pos 3000000 ∷ [])) ∷ item 14 (codes "PU") (Params PenUp []) ∷ [])
+    ∷ (codes "PD:;PU", item 0 (codes "PD") (DamagedMoves Down []) ∷ item 4 (codes "PU") (Params PenUp []) ∷ [])  -- no number
+    ∷ (codes "PA1,-;", item 0 (codes "PA") (DamagedMoves Absolute (pos 1000000 ∷ [])) ∷ [])  -- a sign without digits
+    ∷ (codes "PR9999999,1;", item 0 (codes "PR") (DamagedMoves Relative []) ∷ [])  -- too large a number
+    ∷ (codes "BZ1:2;", item 0 (codes "BZ") (DamagedCurves false (pos 1000000 ∷ [])) ∷ [])
+    ∷ (codes "BR:", item 0 (codes "BR") (DamagedCurves true []) ∷ [])
     ∷ (codes "EA1:2;", item 0 (codes "EA") Bad ∷ [])  -- others are bad
     ∷ [])
 damaged_ones = refl

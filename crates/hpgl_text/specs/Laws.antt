@@ -6,7 +6,7 @@ use Rattle.hpgl_text.specs.declared.mnemonic.Kind.TheVariants.{LabelEnd, LabelEn
 use Rattle.hpgl_text.specs.declared.profile.Profile.{Profile}
 use Rattle.hpgl_text.specs.declared.profile.Profile.TheVariants.{Core, Full}
 use Rattle.hpgl_text.specs.Mnemonics.{kind_of}
-use Rattle.hpgl_text.specs.Shapes.{ItemShape, BodyShape, Terminator, Damaged}
+use Rattle.hpgl_text.specs.Shapes.{ItemShape, BodyShape, Terminator, DamagedMoves, move_instruction}
 use Rattle.hpgl_text.specs.Cut.{item_at, next_place, silent_at, cut, cut_by}
 use Rattle.hpgl_text.specs.Polylines.{entries}
 
@@ -33,13 +33,13 @@ OneCut = (profile : Profile) (plot : List ℕ) (items : List ItemShape)
 -- what follows a mnemonic, but for the mode of a DT and for moves before a wrong byte
 abbrev pub as_in_core : Kind → Kind
 as_in_core LabelEndWithMode = LabelEnd
-as_in_core (Moves instruction) = Parameters instruction
+as_in_core (Moves moves) = Parameters (move_instruction moves)
 as_in_core kind = kind
 
 -- the body is a terminator that is printed, or moves before a wrong byte
 abbrev pub is_only_in_full : BodyShape → Bool
 is_only_in_full (Terminator end) = end.is_printed
-is_only_in_full (Damaged instruction numbers) = true
+is_only_in_full (DamagedMoves moves numbers) = true
 is_only_in_full _ = false
 
 -- both profiles read what follows the item's mnemonic in the same way: a DT has not the mode that prints, and moves no wrong byte

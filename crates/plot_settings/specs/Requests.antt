@@ -6,8 +6,8 @@ use Rattle.plot_settings.specs.Meanings.{DrawArc, moves}
 use Rattle.plot_settings.specs.Meanings.{lowered_then}
 use Rattle.plot_settings.specs.declared.request.Request.{Request}
 use Rattle.plot_settings.specs.declared.request.Request.TheVariants.{Set, Move, Edge, Circle, Arc, Wrong}
-use Rattle.plot_settings.specs.declared.request.Moves.{Moves}
-use Rattle.plot_settings.specs.declared.request.Moves.TheVariants.{Up, Down, Absolute, Relative}
+use Rattle.hpgl_text.specs.declared.moves.Moves.{Moves}
+use Rattle.hpgl_text.specs.declared.moves.Moves.TheVariants.{Up, Down, Absolute, Relative}
 
 -- the steps of PU, PD, PA and PR
 abbrev pub move_steps : Moves → List ℤ → List Step

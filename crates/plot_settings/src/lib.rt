@@ -19,6 +19,6 @@ pub use figure::{Arc, Circle, Corner};
 pub use palette::{FIRST_WIDTH, default_colour, default_colours, width_of_all};
 pub use parameters::whole_number;
 pub use points::points_moved_to;
-pub use request::{Moves, Request, request_of};
+pub use request::{Request, request_of};
 pub use setting::{Corners, Rotation, Setting};
 pub use slants::is_off_axis;

@@ -14,20 +14,7 @@ use crate::parameters::{
     window_setting,
 };
 use crate::setting::Setting;
-use hpgl_text::{Instruction, Number, Numbers};
-
-/// The instructions that move the pen to each pair of their numbers.
-#[derive(Clone, Copy, Debug, PartialEq, Eq)]
-pub enum Moves {
-    /// PU: with the pen up.
-    Up,
-    /// PD: with the pen down.
-    Down,
-    /// PA: to absolute coordinates.
-    Absolute,
-    /// PR: to relative coordinates.
-    Relative,
-}
+use hpgl_text::{Moves, Instruction, Number, Numbers};
 
 /// What an instruction asks for. Coordinates are in millionths of the current unit.
 #[derive(Clone, Copy, Debug)]
