@@ -27,7 +27,7 @@ use Rattle.plot_settings.specs.declared.setting.Rotation.{Rotation}
 use Rattle.plot_settings.specs.declared.setting.Rotation.TheVariants as rotation
 use Rattle.plot_settings.specs.declared.setting.Setting.{Setting}
 use Rattle.plot_settings.specs.declared.setting.Setting.TheVariants as setting
-use Rattle.hpgl_text.specs.Shapes.{ItemShape, BodyShape, Params, Further, Label, Coded, Kept, Symbol, Known}
+use Rattle.hpgl_text.specs.Shapes.{ItemShape, BodyShape, Params, Further, DamagedMoves, DamagedCurves, Label, Coded, Kept, Symbol, Known}
 use Rattle.hpgl_text.specs.declared.instruction.Instruction.{Instruction}
 use Rattle.hpgl_text.specs.declared.instruction.Instruction.TheVariants.{Initialize, DefaultValues, InputPoints, PenWidth, PenColour, CharacterSize, Direction}
 use Rattle.hpgl_plot.specs.declared.fault.PlotFault.{PlotFault}
@@ -321,6 +321,8 @@ item_run w (Further f ns) e h = absurd (true≢false (sym e))
 item_run w (Label text) e h =
     steps_run w (Write text ∷ []) (((λ d page s k. k), core_label (nat_lt 67108864 (length text)) text e refl), tt) h
 item_run w (Coded entries) e h = steps_run w (entry_steps entries) (entries_still entries) h
+item_run w (DamagedMoves moves ns) e h = absurd (true≢false (sym e))
+item_run w (DamagedCurves relative ns) e h = absurd (true≢false (sym e))
 item_run w (Kept bytes) e h = absurd (true≢false (sym e))
 item_run w (Symbol byte) e h = absurd (true≢false (sym e))
 item_run w Known e h = absurd (true≢false (sym e))

@@ -1,5 +1,5 @@
 -- Lines that are drawn one after another, and the ends of their dashes.
-use Rattle.std.proofs.Common.{◌≡◌, ◌∙◌, ◌<◌, ◌+◌, ◌^◌, ℕ, suc, drop, drop-cons, get_or, length, Some, List, [], ◌∷◌, ◌++◌, refl, ap, sym, inl, inr, arith, pos, append-nil, map, Bool, true, false, Option}
+use Rattle.std.proofs.Common.{◌≡◌, ◌∙◌, ◌<◌, ◌+◌, ℕ, suc, drop, drop-cons, get_or, length, Some, List, [], ◌∷◌, ◌++◌, refl, ap, sym, inl, inr, arith, pos, append-nil, map, Bool, true, false, Option}
 use Rattle.std.specs.Prelude.{if◌then◌else◌}
 use Rattle.std.proofs.lemmas.List.{map-append}
 use Rattle.polygons.specs.declared.edge.Edge.{Edge}

@@ -3,9 +3,10 @@ use Rattle.std.proofs.Common.{◌≡◌, ◌∙◌, sym, refl, ℤ, Bool, true, 
 use Rattle.std.specs.Prelude.{not}
 use Rattle.std.proofs.lemmas.Bool.{and_from}
 use Rattle.std.proofs.lemmas.List.Folds.{list_all-append}
-use Rattle.hpgl_text.specs.Shapes.{BodyShape, Params, Further, Kept, Symbol}
+use Rattle.hpgl_text.specs.Shapes.{BodyShape, Params, Further, DamagedMoves, DamagedCurves, Kept, Symbol}
 use Rattle.hpgl_text.specs.declared.instruction.Instruction.{Instruction}
 use Rattle.hpgl_text.specs.declared.instruction.Instruction.TheVariants as is
+use Rattle.plot_settings.specs.Requests.{move_steps}
 use Rattle.plot_settings.specs.Meanings.{Step, body_steps, meaning, sets}
 use Rattle.full_settings.specs.declared.letter_setting.LetterSetting.{LetterSetting}
 use Rattle.full_settings.specs.declared.points.CurvePoints.{CurvePoints}
@@ -81,6 +82,8 @@ body_fit : (c : Context) (b : BodyShape) → (c.in_polygon ≡ true → are_sile
     → are_fit (after_body c b).in_polygon (full_steps c b) ≡ true
 body_fit c (Params i ns) h = params_fit (after_body c (Params i ns)).in_polygon c i ns
 body_fit c (Further f ns) h = request_fit c (request_in c f ns) ns h
+body_fit c (DamagedMoves moves ns) h = core_fit c.in_polygon (move_steps moves ns)
+body_fit c (DamagedCurves relative ns) h = curves_fit c.in_polygon relative (curve_points ns)
 body_fit c (Kept bytes) h = refl
 body_fit c (Symbol byte) h = refl
 body_fit c b h = core_fit c.in_polygon (body_steps b)

@@ -4,13 +4,16 @@ use Rattle.std.specs.Prelude.{if◌then◌else◌}
 use Rattle.std.specs.List.{list_all}
 use Rattle.std.proofs.lemmas.Bool.{and_parts, and_from}
 use Rattle.std.proofs.lemmas.List.Folds.{list_all-append}
-use Rattle.hpgl_text.specs.Shapes.{ItemShape, BodyShape, Params, Further, Label, Coded}
+use Rattle.hpgl_text.specs.Shapes.{ItemShape, BodyShape, Params, Further, DamagedMoves, DamagedCurves, Label, Coded}
 use Rattle.hpgl_text.specs.Shapes as shape
 use Rattle.hpgl_text.specs.declared.further.Further as further
 use Rattle.hpgl_text.specs.declared.further.Further.TheVariants as of
 use Rattle.hpgl_text.specs.declared.instruction.Instruction.{Instruction}
 use Rattle.hpgl_text.specs.declared.instruction.Instruction.TheVariants as is
 use Rattle.plot_settings.specs.declared.setting.Setting.{Setting}
+use Rattle.hpgl_text.specs.declared.moves.Moves.{Moves}
+use Rattle.hpgl_text.specs.declared.moves.Moves.TheVariants.{Up, Down, Absolute, Relative}
+use Rattle.plot_settings.specs.Requests.{move_steps}
 use Rattle.plot_settings.specs.Meanings.{Step, Edge, Write, entry_steps, meaning, sets}
 use Rattle.plot_settings.specs.Parameters.{character_size, label_direction, scaling_points}
 use Rattle.full_settings.specs.declared.letter_setting.LetterSetting.{LetterSetting}
@@ -151,12 +154,22 @@ request_silent c r ns on h = when_on c.in_polygon (request_steps r ns) on h
 further_on : (c : Context) (f : further.Further) (ns : List ℤ) → c.in_polygon ≡ true → request_in c f ns ≡ further_request f (numbers_read c.usual_chords f ns)
 further_on c f ns on = rw on refl
 
+moves_plain : (moves : Moves) (ns : List ℤ) → ArePlain (move_steps moves ns)
+moves_plain Up ns = params_plain is.PenUp ns refl refl
+moves_plain Down ns = params_plain is.PenDown ns refl refl
+moves_plain Absolute ns = params_plain is.PlotAbsolute ns refl refl
+moves_plain Relative ns = params_plain is.PlotRelative ns refl refl
+
 body_silent : (c : Context) (b : BodyShape) → c.in_polygon ≡ true → is_bad_in_polygons b ≡ false
     → are_silent (after_body c b).in_polygon (full_steps c b) ≡ true
 body_silent c (Params i ns) on h = params_silent c i ns on h
 body_silent c (Further f ns) on h =
     request_silent c (request_in c f ns) ns on (ap is_asked (further_on c f ns on) ∙ further_asked f (numbers_read c.usual_chords f ns) h)
 body_silent c (Coded entries) on h = when_on c.in_polygon (as_core (entry_steps entries)) on (plain_silent (entry_steps entries) (entries_plain entries))
+body_silent c (DamagedMoves moves ns) on h =
+    when_on c.in_polygon (as_core (move_steps moves ns)) on (plain_silent (move_steps moves ns) (moves_plain moves ns))
+body_silent c (DamagedCurves relative ns) on h =
+    when_on c.in_polygon (map (Curve relative) (curve_points ns)) on (curves_silent relative (curve_points ns))
 body_silent c (Label text) on h = absurd (true≢false h)
 body_silent c b on h = refl
 

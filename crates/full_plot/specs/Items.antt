@@ -1,6 +1,6 @@
 -- The steps of the items of a plot in the profile full.
 use Rattle.std.specs.Prelude.{ℤ, Bool, true, false, List, [], ◌∷◌, ◌++◌, map, Option, Some, None, if◌then◌else◌}
-use Rattle.hpgl_text.specs.Shapes.{BodyShape, Params, Kept, Symbol}
+use Rattle.hpgl_text.specs.Shapes.{BodyShape, Params, DamagedMoves, DamagedCurves, Kept, Symbol}
 use Rattle.hpgl_text.specs.Shapes as shape
 use Rattle.hpgl_text.specs.declared.instruction.Instruction.{Instruction}
 use Rattle.hpgl_text.specs.declared.instruction.Instruction.TheVariants.{Initialize, DefaultValues, InputPoints}
@@ -8,6 +8,7 @@ use Rattle.hpgl_text.specs.declared.instruction.Instruction.TheVariants.{PenWidt
 use Rattle.hpgl_text.specs.declared.instruction.Instruction.TheVariants.{Direction}
 use Rattle.plot_settings.specs.declared.setting.Setting.TheVariants.{Start}
 use Rattle.plot_settings.specs.Meanings.{Step, Set, meaning, sets, body_steps}
+use Rattle.plot_settings.specs.Requests.{move_steps}
 use Rattle.full_settings.specs.declared.requests.FurtherRequest.{FurtherRequest}
 use Rattle.full_settings.specs.declared.requests.FurtherRequest.TheVariants as request
 use Rattle.full_settings.specs.declared.letter_setting.LetterSetting.{LetterSetting}
@@ -93,6 +94,8 @@ params_steps c instruction ns = as_core (meaning instruction ns).steps ++ more_s
 abbrev pub full_steps : Context → BodyShape → List FullStep
 full_steps c (shape.Further f ns) = request_steps (request_in c f ns) ns
 full_steps c (Params instruction ns) = params_steps c instruction ns
+full_steps c (DamagedMoves moves ns) = as_core (move_steps moves ns)
+full_steps c (DamagedCurves relative ns) = map (Curve relative) (curve_points ns)
 full_steps c (Kept bytes) = Keep bytes ∷ []
 full_steps c (Symbol byte) = Mark byte ∷ []
 full_steps c body = as_core (body_steps body)

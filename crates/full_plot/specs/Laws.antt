@@ -11,7 +11,7 @@ use Rattle.labels.specs.Labels.{AreInOrder}
 use Rattle.plot_page.specs.Segments.{Segment}
 use Rattle.plot_page.specs.declared.page.Page.{Page}
 use Rattle.plot_page.specs.declared.stroke.TheConstants.{FARTHEST_END, FARTHEST_PLACE}
-use Rattle.hpgl_text.specs.Shapes.{ItemShape, BodyShape, Params, Further, Label, Terminator, Kept, Symbol, Known}
+use Rattle.hpgl_text.specs.Shapes.{ItemShape, BodyShape, Params, Further, DamagedMoves, DamagedCurves, Escape, FormFeed, Label, Terminator, Kept, Symbol, Known}
 use Rattle.hpgl_text.specs.declared.further.Further.TheVariants.{BeginPlot, BezierAbsolute, BezierRelative}
 use Rattle.hpgl_text.specs.declared.instruction.Instruction.TheVariants.{Initialize, PenUp, PenDown, PlotAbsolute, PlotRelative}
 use Rattle.plot_settings.specs.Meanings.{Load, Step}
@@ -40,6 +40,10 @@ is_core_body (Params instruction ns) = not (is_off_axis instruction ns)
 is_core_body (Further f ns) = false
 is_core_body (Label text) = is_core_label text
 is_core_body (Terminator terminator) = not terminator.is_printed
+is_core_body (DamagedMoves moves ns) = false
+is_core_body (DamagedCurves relative ns) = false
+is_core_body (Escape bytes) = false
+is_core_body FormFeed = false
 is_core_body (Kept bytes) = false
 is_core_body (Symbol byte) = false
 is_core_body Known = false
@@ -90,8 +94,8 @@ CoreDrawsAsInCoreWith =
 abbrev pub CoreNotedAsInCore : Type 0
 CoreNotedAsInCore = (items : List ItemShape) → All IsCoreItem items → notes items ≡ noting.notes items
 
--- what is drawn before a wrong number: moves to the pairs of coordinates before an unpaired one, and curves before the
--- numbers that make none
+-- what is drawn before a wrong number: moves to the pairs of coordinates before an unpaired one or a wrong byte, and curves
+-- before the numbers that make none or such a byte
 abbrev pub draws_in_part : BodyShape → Bool
 draws_in_part (Params PenUp ns) = true
 draws_in_part (Params PenDown ns) = true
@@ -99,6 +103,8 @@ draws_in_part (Params PlotAbsolute ns) = true
 draws_in_part (Params PlotRelative ns) = true
 draws_in_part (Further BezierAbsolute ns) = true
 draws_in_part (Further BezierRelative ns) = true
+draws_in_part (DamagedMoves moves ns) = true
+draws_in_part (DamagedCurves relative ns) = true
 draws_in_part _ = false
 
 -- any other item that is noted as bad does nothing

@@ -57,8 +57,8 @@ impl FullPlotter {
         }
     }
 
-    // PU, PD, PA or PR: a move to each pair of its numbers.
-    fn move_by(&mut self, moves: Moves, numbers: &Numbers<'_>) -> Result<(), Stop>
+    /// PU, PD, PA or PR: a move to each pair of its numbers.
+    pub fn move_by(&mut self, moves: Moves, numbers: &Numbers<'_>) -> Result<(), Stop>
         ensures { Runs (run (seen self.old) (as_core (move_steps moves numbers.now))) (seen self.new) result }
     {
         match moves {

@@ -36,6 +36,14 @@ impl FullPlotter {
                 self.follow_entries(polyline.entries())?;
                 Ok(None)
             }
+            Body::DamagedMoves(moves, numbers) => {
+                self.move_by(*moves, numbers)?;
+                Ok(Some(NoteKind::Bad))
+            }
+            Body::DamagedCurves(is_relative, numbers) => {
+                self.draw_curves(*is_relative, numbers)?;
+                Ok(Some(NoteKind::Bad))
+            }
             Body::Label(text) => {
                 self.write(text)?;
                 Ok(None)
@@ -49,6 +57,7 @@ impl FullPlotter {
                 Ok(None)
             }
             Body::Terminator(_) | Body::Known => Ok(None),
+            Body::Escape(_) | Body::FormFeed => Ok(None),
             Body::Skipped => Ok(Some(NoteKind::Skipped)),
             Body::Bad => Ok(Some(NoteKind::Bad)),
             Body::Stray(byte) => Ok(Some(NoteKind::Stray(*byte))),

@@ -8,15 +8,15 @@ use Rattle.hpgl_text.specs.Bytes.{byte, escape, begins_with}
 use Rattle.hpgl_text.specs.Cut.{cut_by, items_from, item_at, next_place, silent_at, terminator_after}
 use Rattle.hpgl_text.specs.Bytes.{place_of, has_byte}
 use Rattle.hpgl_text.specs.EntryShapes.{EntryShape}
-use Rattle.hpgl_text.specs.Items.{Content, content, content_of, one_byte_length, parameters, polyline, code_of, first_item, begins_with_mnemonic}
+use Rattle.hpgl_text.specs.Items.{Content, content, content_of, one_byte_length, parameters_or, bad, polyline, code_of, first_item, begins_with_mnemonic}
 use Rattle.hpgl_text.specs.Mnemonics.{kind_of}
 use Rattle.hpgl_text.specs.Numbers.{numbers, past_numbers, ends_numbers}
-use Rattle.hpgl_text.specs.Shapes.{ItemShape, BodyShape, Params, Further, Terminator, Stray}
+use Rattle.hpgl_text.specs.Shapes.{ItemShape, BodyShape, Params, Further, DamagedMoves, DamagedCurves, move_instruction, curve_instruction, Terminator, Stray}
 use Rattle.hpgl_text.specs.Shapes as shape
 use Rattle.hpgl_text.specs.Terminators.{unprinted, first_terminator, named_terminator, printed_if, begins_with_printing, named_with_mode}
 use Rattle.hpgl_text.specs.declared.terminator.Terminator.{Terminator as LabelTerminator}
 use Rattle.hpgl_text.specs.declared.mnemonic.Kind.{Kind}
-use Rattle.hpgl_text.specs.declared.mnemonic.Kind.TheVariants.{Parameters, FurtherParameters, Unread, LabelText, LabelEnd, LabelEndWithMode, Polyline, Symbol, SkippedSymbol, Buffer, SkippedBuffer, Display, Comment, WithoutEffect, Unknown}
+use Rattle.hpgl_text.specs.declared.mnemonic.Kind.TheVariants.{Parameters, FurtherParameters, Moves, Curves, Unread, LabelText, LabelEnd, LabelEndWithMode, Polyline, Symbol, SkippedSymbol, Buffer, SkippedBuffer, Display, Comment, WithoutEffect, Unknown}
 use Rattle.hpgl_text.specs.declared.profile.Profile.{Profile}
 use Rattle.hpgl_text.specs.declared.profile.Profile.TheVariants.{Core}
 use Rattle.hpgl_text.proofs.EntryCounts.{entries_few}
@@ -83,12 +83,16 @@ polyline_fits at text =
     let few = entries_few (has_byte (byte ";") text) at (take end text) in
     record { in_content = omega (arith, few, length-take end text); in_text = omega (arith, few, length-take end text) }
 
-parameters_fit : (made_of : List ℤ → BodyShape) (text : List ℕ) → entries_in (made_of (numbers text)) ≡ [] → Fits (parameters made_of text) text
-parameters_fit made_of text e = none_fits (parameters made_of text) text (none_in_either (ends_numbers (past_numbers text)) (made_of (numbers text)) shape.Bad e refl)
+parameters_fit : (damaged made_of : List ℤ → BodyShape) (text : List ℕ) → entries_in (made_of (numbers text)) ≡ [] → entries_in (damaged (numbers text)) ≡ []
+    → Fits (parameters_or damaged made_of text) text
+parameters_fit damaged made_of text e d =
+    none_fits (parameters_or damaged made_of text) text (none_in_either (ends_numbers (past_numbers text)) (made_of (numbers text)) (damaged (numbers text)) e d)
 
 content_fits : (kind : Kind) (terminator : LabelTerminator) (at : ℕ) (text : List ℕ) → Fits (content_of kind terminator at text) text
-content_fits (Parameters instruction) terminator at text = parameters_fit (Params instruction) text refl
-content_fits (FurtherParameters further) terminator at text = parameters_fit (Further further) text refl
+content_fits (Parameters instruction) terminator at text = parameters_fit bad (Params instruction) text refl refl
+content_fits (FurtherParameters further) terminator at text = parameters_fit bad (Further further) text refl refl
+content_fits (Moves moves) terminator at text = parameters_fit (DamagedMoves moves) (Params (move_instruction moves)) text refl refl
+content_fits (Curves relative) terminator at text = parameters_fit (DamagedCurves relative) (Further (curve_instruction relative)) text refl refl
 content_fits (Unread further) terminator at text = none_fits _ text refl
 content_fits LabelText terminator at text = none_fits _ text refl
 content_fits LabelEnd terminator at text = none_fits (content (named_terminator text) false (one_byte_length text)) text (none_in_terminator text)

@@ -77,8 +77,9 @@ pub fn noted_kind(item: &Item<'_>) -> Option<NoteKind>
         }
         Body::Coded(_) | Body::Label(_) | Body::Terminator(_) => None,
         Body::Further(_, _) | Body::Kept(_) | Body::Symbol(_) | Body::Known => None,
+        Body::Escape(_) | Body::FormFeed => None,
         Body::Skipped => Some(NoteKind::Skipped),
-        Body::Bad => Some(NoteKind::Bad),
+        Body::Bad | Body::DamagedMoves(_, _) | Body::DamagedCurves(_, _) => Some(NoteKind::Bad),
         Body::Stray(byte) => Some(NoteKind::Stray(*byte)),
     }
 }

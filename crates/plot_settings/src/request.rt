@@ -14,7 +14,7 @@ use crate::parameters::{
     window_setting,
 };
 use crate::setting::Setting;
-use hpgl_text::{Moves, Instruction, Number, Numbers};
+use hpgl_text::{Instruction, Moves, Number, Numbers};
 
 /// What an instruction asks for. Coordinates are in millionths of the current unit.
 #[derive(Clone, Copy, Debug)]
