@@ -49,7 +49,11 @@ class Pair(NamedTuple):
 
 
 class BadFrom(Exception):
-    """An instruction is bad, and it is skipped from this place on."""
+    """An instruction is bad, and it is skipped from this place on; the numbers before it may count."""
+
+    def __init__(self, place, numbers=()):
+        super().__init__(place)
+        self.place, self.numbers = place, list(numbers)
 
 
 def items(plot, cut=None):
@@ -94,7 +98,7 @@ def instruction(plot, at, terminator):
             has, place = new_terminator(plot, place)
             return Item(at, code, "terminator", has), place
     except BadFrom as bad:
-        return Item(at, code, "bad"), SKIPPED.match(plot, bad.args[0]).end()
+        return Item(at, code, "bad"), SKIPPED.match(plot, bad.place).end()
     if code == "BL":
         return Item(at, code, "skipped"), label(plot, place, terminator)[1]
     if code == "SM" and plot[place : place + 1] != b";":
@@ -110,7 +114,10 @@ def numbers(plot, place):
         end = END_OF_NUMBERS.match(plot, place)
         if end:
             return found, end.end()
-        number, place = one_number(plot, place)
+        try:
+            number, place = one_number(plot, place)
+        except BadFrom as bad:
+            raise BadFrom(bad.place, found) from None
         found.append(number)
 
 

@@ -1,7 +1,7 @@
 """From the bytes of a plot to its items, in the profile full.
 
 The core's items, and those of further instructions. An item of the kind `known` has no effect, one of the kind
-`byte` has a byte or None, and one of the kind `text` has a text.
+`byte` has a byte or None, one of the kind `text` has a text, and one of the kind `damaged` has the numbers before a wrong byte.
 """
 
 import re
@@ -19,6 +19,8 @@ FURTHER_WITH_NUMBERS = "CP XT YT PM EP FP RA RR EW WG AT RT BZ BR".split() + [
     name for name in vars(FullSettings)
     if re.fullmatch("[A-Z]{2}", name) and name not in (*cutting.WITH_NUMBERS, *WITHOUT_NUMBERS, "BL", "SM")
 ]
+# Instructions that draw by the numbers before a wrong byte.
+DRAWN_IN_PART = "PU PD PA PR BZ BR".split()
 WITHOUT_EFFECT = """
     PS NP LA TR MC PP MT QL ST VS FS AS AP EC GC GM FN FI SB DS IV CM CF CC LM TD RF MG IM KY
     DC DP OA OC OD OE OF OG OH OI OK OL OO OP OS OT OW
@@ -74,12 +76,13 @@ def next_item(plot, place, terminator):
 def instruction(plot, at, terminator):
     """The instruction at a place, and the place after it."""
     code, place = plot[at : at + 2].decode().upper(), at + 2
-    if code in FURTHER_WITH_NUMBERS:
+    if code in FURTHER_WITH_NUMBERS or code in DRAWN_IN_PART:
         try:
             has, end = cutting.numbers(plot, place)
             return Item(at, code, "numbers", has), end
         except BadFrom as bad:
-            return Item(at, code, "bad"), SKIPPED.match(plot, bad.args[0]).end()
+            kind = "damaged" if code in DRAWN_IN_PART else "bad"
+            return Item(at, code, kind, bad.numbers), SKIPPED.match(plot, bad.place).end()
     if code in WITHOUT_NUMBERS:
         return Item(at, code, "numbers", []), SKIPPED.match(plot, place).end()
     if code in WITHOUT_EFFECT:

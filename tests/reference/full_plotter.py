@@ -93,12 +93,22 @@ class FullPlotter(FullSettings):
                 self.note(item.at, "open", item.code)
         elif item.kind in ("byte", "text"):
             getattr(self, item.code)(item.has)
+        elif item.kind == "damaged":
+            self.draw_in_part(item)
         elif item.kind == "escape":
             self.escape(item.has)
         elif item.kind == "page":
             self.end_page()
         elif item.kind != "known":
             super().obey(item)
+
+    def draw_in_part(self, item):
+        """Does what an instruction asks for by the numbers before a wrong byte."""
+        try:
+            getattr(self, item.code)(item.has)
+        except Bad:
+            pass
+        self.note(item.at, "bad", item.code)
 
     def has_too_much(self):
         return max(self.sum, self.buffer.size) > self.most

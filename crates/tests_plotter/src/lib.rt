@@ -24,6 +24,8 @@ mod core_told;
 #[cfg(test)]
 mod curves_set;
 #[cfg(test)]
+mod damaged_set;
+#[cfg(test)]
 mod drawings;
 #[cfg(test)]
 mod full_cases;

@@ -217,6 +217,41 @@ Params(PenUp, [])
 
 ";
 
+// Moves and curves have the numbers before a wrong byte, and no other instruction.
+const DAMAGED: &str = "\
+PU1?;PD.5,:PAPA2,-;PR3,8388608;BZ4a BR?
+DamagedMoves(Up, [Number { millionths: 1000000 }])
+DamagedMoves(Down, [Number { millionths: 500000 }])
+Params(PlotAbsolute, [])
+DamagedMoves(Absolute, [Number { millionths: 2000000 }])
+DamagedMoves(Relative, [Number { millionths: 3000000 }])
+Further(BezierAbsolute, [Number { millionths: 4000000 }])
+Stray(97)
+DamagedCurves(true, [])
+
+BZ5?EA1?;PW?
+DamagedCurves(false, [Number { millionths: 5000000 }])
+Bad
+Bad
+
+";
+
+const BAD_IN_THE_CORE: &str = "\
+PU1?;PD.5,:PA2,-;PR3,8388608;
+Bad
+Bad
+Bad
+Bad
+
+";
+
+#[test]
+fn damaged(rt: HostRuntime) -> Result<(), Fail> {
+    let (core, full) = (Asked::Bodies(Profile::Core), Asked::Bodies(Profile::Full));
+    has_answers(&rt, rt.alloc(), full, DAMAGED, 2)?;
+    has_answers(&rt, rt.alloc(), core, BAD_IN_THE_CORE, 1)
+}
+
 #[test]
 fn printed_terminators(rt: HostRuntime) -> Result<(), Fail> {
     let (core, full) = (Asked::Bodies(Profile::Core), Asked::Bodies(Profile::Full));

@@ -35,10 +35,11 @@ fn has_notes_at(rt: &impl Abort, alloc: Global, plot: &[u8], wanted: &str) -> Re
 fn why(item: &Item<'_>) -> Option<&'static str> {
     match &item.body {
         Body::Skipped => Some("skipped"),
-        Body::Bad => Some("bad"),
+        Body::Bad | Body::DamagedMoves(_, _) | Body::DamagedCurves(_, _) => Some("bad"),
         Body::Stray(_) => Some("stray"),
         Body::Coded(polyline) if has_notes(polyline) => Some("noted"),
         Body::Further(_, _) | Body::Kept(_) | Body::Symbol(_) | Body::Known => Some("further"),
+        Body::Escape(_) | Body::FormFeed => Some("further"),
         Body::Params(_, _) | Body::Label(_) | Body::Coded(_) | Body::Terminator(_) => {
             if item.unended { Some("unended") } else { None }
         }
