@@ -44,6 +44,18 @@ impl<'a> Step<'a> {
             Some(group) => next_step(group, self.rest),
         }
     }
+
+    /// The text after the last command of the escape.
+    pub fn end(self) -> &'a [u8]
+        ensures value { result.now ≡ (all_of self.entry).1 }
+        ensures within { length result.now ≤ length self.entry.rest.now }
+    {
+        let mut last = self;
+        'commands: while let Some(next) = last.following() {
+            last = next;
+        }
+        last.rest
+    }
 }
 
 /// The first command of an escape, from the byte after the ESC on. None if the ESC is a stray, or if a device control follows
@@ -113,20 +125,8 @@ pub fn escape_length(text: &[u8]) -> Option<usize>
 {
     match first_step(text) {
         None => None,
-        Some(first) => Some(text.len() - last_rest(first).len()),
+        Some(first) => Some(text.len() - first.end().len()),
     }
-}
-
-// The text after the last command of an escape.
-fn last_rest<'a>(first: Step<'a>) -> &'a [u8]
-    ensures value { result.now ≡ (all_of first.entry).1 }
-    ensures within { length result.now ≤ length first.entry.rest.now }
-{
-    let mut last = first;
-    'commands: while let Some(next) = last.following() {
-        last = next;
-    }
-    last.rest
 }
 
 // The group, if it goes on.

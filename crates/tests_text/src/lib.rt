@@ -16,6 +16,8 @@ mod dots_of_images;
 #[cfg(test)]
 mod escapes_cut;
 #[cfg(test)]
+mod full_cuts;
+#[cfg(test)]
 mod further;
 #[cfg(test)]
 mod images_made;

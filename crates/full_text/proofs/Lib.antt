@@ -1,0 +1,5 @@
+mod Steps
+mod Plain
+mod Apart
+mod Scans
+mod Examples
