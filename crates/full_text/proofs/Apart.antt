@@ -10,7 +10,7 @@ use Rattle.hpgl_text.specs.declared.mnemonic.Kind.TheVariants.{Parameters, Furth
 use Rattle.hpgl_text.specs.declared.terminator.Terminator.{Terminator}
 use Rattle.hpgl_text.specs.Bytes.{byte, escape as esc, begins_with}
 use Rattle.hpgl_text.specs.Numbers.{numbers, past_numbers, ends_numbers}
-use Rattle.hpgl_text.specs.Shapes.{ItemShape, BodyShape, Bad}
+use Rattle.hpgl_text.specs.Shapes.{ItemShape, BodyShape, Bad, move_instruction, curve_instruction}
 use Rattle.hpgl_text.specs.Shapes as shape
 use Rattle.hpgl_text.specs.Terminators.{first_terminator, unprinted, named_terminator, printed_if, begins_with_printing}
 use Rattle.hpgl_text.specs.Mnemonics.{kind_of}
@@ -61,8 +61,8 @@ printed_other printed _ h = h
 content_other : (kind : Kind) (t : Terminator) (at : ℕ) (text : List ℕ) → IsOther (content_of kind t at text).body
 content_other (Parameters instruction) t at text = other_if (ends_numbers (past_numbers text)) (shape.Params instruction (numbers text)) Bad refl refl
 content_other (FurtherParameters further) t at text = other_if (ends_numbers (past_numbers text)) (shape.Further further (numbers text)) Bad refl refl
-content_other (Moves instruction) t at text = other_if (ends_numbers (past_numbers text)) (shape.Params instruction (numbers text)) (shape.Damaged instruction (numbers text)) refl refl
-content_other (Curves further) t at text = other_if (ends_numbers (past_numbers text)) (shape.Further further (numbers text)) (shape.DamagedCurves further (numbers text)) refl refl
+content_other (Moves moves) t at text = other_if (ends_numbers (past_numbers text)) (shape.Params (move_instruction moves) (numbers text)) (shape.DamagedMoves moves (numbers text)) refl refl
+content_other (Curves relative) t at text = other_if (ends_numbers (past_numbers text)) (shape.Further (curve_instruction relative) (numbers text)) (shape.DamagedCurves relative (numbers text)) refl refl
 content_other LabelEnd t at text = named_other text
 content_other LabelEndWithMode t at text =
     other_if (begins_with ";" text) (named_terminator text) _ (named_other text) (printed_other (begins_with_printing (drop 1 text)) (named_terminator text) (named_other text))

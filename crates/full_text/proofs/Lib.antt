@@ -1,4 +1,4 @@
-mod Steps
+pub mod Steps
 mod Plain
 mod Apart
 mod Scans

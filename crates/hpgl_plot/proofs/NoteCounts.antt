@@ -35,7 +35,7 @@ each_once code [] = omega arith
 each_once code (e ∷ es) = omega (arith, length-append (entry_note code e) (flat_map (entry_note code) es), one_at code e.at (part_noted e.what), each_once code es)
 
 -- what is noted on an item at its first byte, by its body
-abbrev Noting : Type 0
+abbrev pub Noting : Type 0
 Noting = BodyShape → Option NoteKind
 
 abbrev pub notes_by : Noting → ItemShape → List Note
@@ -118,12 +118,12 @@ two_bytes (b ∷ []) e = absurd (not_both (is_ascii_alphabetic b) e)
 two_bytes (b ∷ c ∷ text) e = omega arith
 
 -- an item has no more notes than bytes
-record IsFew (noted : Noting) (item : ItemShape) (bytes : ℕ) (text : List ℕ) : Type 0 where
-  in_item : length (notes_by noted item) ≤ bytes
-  in_text : length (notes_by noted item) ≤ length text
+pub record IsFew (noted : Noting) (item : ItemShape) (bytes : ℕ) (text : List ℕ) : Type 0 where
+  pub in_item : length (notes_by noted item) ≤ bytes
+  pub in_text : length (notes_by noted item) ≤ length text
 
 -- a stray has one note at most
-few_on_stray : (noted : Noting) (item : ItemShape) → entries_in item.body ≡ [] → item.unended ≡ false → length (notes_by noted item) ≤ 1
+pub few_on_stray : (noted : Noting) (item : ItemShape) → entries_in item.body ≡ [] → item.unended ≡ false → length (notes_by noted item) ≤ 1
 few_on_stray noted item none ended =
     let own = note_at item.code item.at (noted item.body) in
     rw (none, ended) (omega (arith, length-append own [], one_at item.code item.at (noted item.body)))
@@ -147,7 +147,7 @@ few_by noted false profile terminator at text e h =
     let few : length (notes_by noted item) ≤ 1 = few_on_stray noted item refl refl in
     rw (e, first_item) (record { in_item = few; in_text = one_is_few _ _ few h })
 
-few_at : (noted : Noting) (profile : Profile) (terminator : LabelTerminator) (at : ℕ) (text : List ℕ) → 0 < length text
+pub few_at : (noted : Noting) (profile : Profile) (terminator : LabelTerminator) (at : ℕ) (text : List ℕ) → 0 < length text
     → IsFew noted (first_item (kind_of profile) terminator at text).item (first_item (kind_of profile) terminator at text).bytes text
 few_at noted profile terminator at text h = few_by noted (begins_with_mnemonic text) profile terminator at text refl h
 
