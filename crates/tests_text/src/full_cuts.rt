@@ -24,6 +24,7 @@ const LANGUAGES: &str = "\
 \x1b*r9APU;\x1b%1BPU; = 0(*r9A) 8(%1B) 12PU
 \x1b*rb3APU;\x1b%0BPD; = 0(*rb3A) 9(%0B) 13PD
 \x1b*r1BPU; = 0(*r1B) 5PU
+\x1b*r1aBPU;\x1b%0BPD; = 0(*r1aB) 9(%0B) 13PD
 ";
 
 const DATA: &str = "\
@@ -112,7 +113,11 @@ fn item_count(profile: Profile, plot: &str) -> usize {
 #[test]
 fn profiles(rt: HostRuntime) -> Result<(), Fail> {
     let plot = "\x1b%0A\x1b&p5XPD9,9;\x1b%0BPU;";
-    let counts = format!(in rt.alloc(); "{} {}", item_count(Profile::Core, plot), item_count(Profile::Full, plot))?;
+    let counts = format!(in rt.alloc();
+        "{} {}",
+        item_count(Profile::Core, plot),
+        item_count(Profile::Full, plot)
+    )?;
     has_text(&rt, counts.as_str(), "10 4");
     Ok(())
 }
