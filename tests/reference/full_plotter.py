@@ -16,7 +16,7 @@ from .directions import length, moved
 from .full_cutting import items
 from .full_lettering import IN_THE_MIDDLE
 from .full_settings import (
-    CROSS_HATCHING, HATCHING, MOST_TICKS, SHADING, SOLID, TICKS_OF_A_GRAIN, FullSettings,
+    CROSS_HATCHING, HATCHING, MOST_TICKS, SHADING, SOLID, TICKS_OF_A_GRAIN, WIDEST, FullSettings,
 )
 from .geometry import sign, turned, turned_about, turns, whole_page
 from .images import Rtl, form_of
@@ -217,8 +217,9 @@ class FullPlotter(FullSettings):
     # Labels and ticks
 
     def write_from_the_pen(self, style, signs):
+        width = min(WIDEST, 2 * self.width()) if self.fonts[self.selected].is_bold else self.width()
         for ends in style.strokes(signs):
-            self.ink(*(self.in_range(moved(self.place, end)) for end in ends))
+            self.ink(*(self.in_range(moved(self.place, end)) for end in ends), width)
 
     def write(self, text):
         """LB: the strokes of each character; the pen ends as the origin says."""

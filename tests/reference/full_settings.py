@@ -25,7 +25,9 @@ USUAL_TICK = (MILLION // 2, MILLION // 2)
 ORIGINS = (*range(1, 10), *range(11, 20), 21)
 # The standard and the alternate set and font.
 STANDARD, ALTERNATE = 0, 1
-SET, SPACING, PITCH, HEIGHT = 1, 2, 3, 4
+SET, SPACING, PITCH, HEIGHT, POSTURE, WEIGHT = 1, 2, 3, 4, 5, 6
+# How much more an italic font is slanted.
+ITALIC_SLANT = 200_000
 SOLID_FILLS, HATCHING, CROSS_HATCHING, SHADING, PATTERNS = (1, 2), 3, 4, 10, (11, 21, 22)
 
 
@@ -47,6 +49,8 @@ class Font(NamedTuple):
     is_proportional: bool = False
     pitch: int = 9 * MILLION
     height: int = 11_500_000
+    is_italic: bool = False
+    is_bold: bool = False
 
     def size(self):
         """The width and the height of a capital in grains."""
@@ -238,6 +242,10 @@ class FullSettings(Plotter):
                 font = font._replace(pitch=within(value, MILLION // 10, 1500 * MILLION))
             elif kind == HEIGHT:
                 font = font._replace(height=within(value, MILLION // 10, 1500 * MILLION))
+            elif kind == POSTURE:
+                font = font._replace(is_italic=rounded(value, MILLION) in (1, 2))
+            elif kind == WEIGHT:
+                font = font._replace(is_bold=3 <= rounded(value, MILLION) <= 7)
         self.fonts[which] = font
         numbers_of_sets = [value for kind, value in pairs if kind == SET] if pairs else [277 * MILLION]
         notes = [self.set_by(which, characters.BY_SYMBOL_SET, number) for number in numbers_of_sets]
@@ -309,11 +317,12 @@ class FullSettings(Plotter):
         d, e = self.distances()
         run, rise, is_relative = self.direction
         direction = unit(d * run, e * rise) if is_relative else unit(run, rise)
-        size = self.size if self.is_sized else self.fonts[self.selected].size()
+        font = self.fonts[self.selected]
+        size = self.size if self.is_sized else font.size()
         return Style(
             size_of(self.relative_size, d, e) if self.relative_size else size,
             turned(*direction, self.rotation),
-            Fraction(self.slant, MILLION),
+            Fraction(self.slant + ITALIC_SLANT * font.is_italic, MILLION),
             tuple(1 + Fraction(n, MILLION) for n in self.space),
             *self.path,
             self.origin,

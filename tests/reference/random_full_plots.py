@@ -46,7 +46,7 @@ THEMES = [
         "known comment WD CO BL SM PG between skipped PD LB DT",
         "IR IR SC RO IP PD PU RR EA LB AC hatching",
         "characters characters characters text text CS CA SD AD SS SA DT PD",
-        "text text SD AD SI SR CP LO ES DV DI PD SM characters",
+        "text text SD AD SI SR CP LO ES DV DI PD SM SL PW PT characters",
         "CS CA SA SS text BL PB DT LB DF IN BP SM PD IP mirrored",
         f"LT UL WU PW PT PC CR IR SR {LETTERS} LO DV CP BL PB SM TL XT YT PM EP FP FT AC RR EW WG AT RT BZ BR CT sheet",
         "LT PD LB FP PM EP FT RR SM IN DF IP SC RO IW SP PU PD PA PR PE EA ER CI AA AR LB DT SI DI",
@@ -227,6 +227,8 @@ class FullWriter(AreaWriter):
             value = {
                 1: self.pick(*SYMBOL_SETS) * MILLION,
                 2: self.pick(0, 1, 1, *((2, -1) if self.is_wild else ())) * MILLION,
+                5: self.pick(0, 1, 2, 3, -1) * MILLION + self.pick(0, 499_999),
+                6: self.pick(-3, 0, 2, 3, 5, 7, 8) * MILLION + self.pick(0, 499_999),
             }.get(kind, round(self.pick(9, 11.5, 18, 23, 4, 40, 0.1, 100, *wild) * MILLION))
             pairs += [kind * MILLION + self.pick(0, 0, 0, 499_999, -500_000), value + self.pick(0, 0, 0, 1)]
         return pairs + ([MILLION] if self.is_wild and self.chance(10) else [])
@@ -271,7 +273,7 @@ class FullWriter(AreaWriter):
             (b"FT3,5,20;", b"RR9,9;"), (b"FT3,5,20;", b"FT3;RR9,9;"), (b"FT10,9;", b"FT10;RR30,30;"),
             (b"AC3,2;", b"FT4,5;RR20,20;"), (b"CT1;", b"CI10,90;"), (b"PM;PD9,9,9,0;", b"PD20,20;EP;"), (b"EA9,9;", b"EP;FP;"),
             (b"DT$;", b"LBa\x03b$"), (b"PT2;", b"PD9,9;"), (b"RA5,5;PG;", b"PD9,9;"), (b"PU9,9;LB\n\x03", b"CP;LBa\x03"),
-            (b"IR10,10,60,60;", b"FT3;RR30,30;"), (b"IP40,30,0,0;", b"SR;LBa\x03"),
+            (b"IR10,10,60,60;", b"FT3;RR30,30;"), (b"SD5,1;AD6,3;", b"LBaa\x0ea\x03"), (b"IP40,30,0,0;", b"SR;LBa\x03"),
         )
         return setting + self.pick(b"IN;", b"DF;", b"BP", b"BP1;", b"IN,;", b"DF!;", b"IN!;", b"") + shown
 

@@ -1,5 +1,5 @@
 -- Labels in the style of core's are written by core.
-use Rattle.std.proofs.Common.{◌≡◌, ◌∙◌, ℕ, List, ap, sym, subst, Option, Result, IsTrue}
+use Rattle.std.proofs.Common.{◌≡◌, ◌∙◌, false, ℕ, List, ap, sym, subst, Option, Result, IsTrue}
 use Rattle.character_sets.specs.Texts.{signs}
 use Rattle.character_sets.specs.declared.encoding.Encoding.{Encoding}
 use Rattle.character_sets.specs.declared.sets.Sets.{Sets}
@@ -18,7 +18,7 @@ use Rattle.full_plot.proofs.CoreLabels.{label_as_in_core, turn_in, turned_twice}
 -- what core answers for a label in its style
 pub core_label : {U : Type 0} (c v : core.World) (style : Style) (encoding : Encoding) (sets : Sets) (bytes : List ℕ) (r : Result U Stop)
     → style ≡ core_style c.state → IsTrue (is_core_text encoding sets bytes) → core.Runs (core.step c (Write bytes)) v r
-    → core.Runs (label_by style c (signs encoding sets bytes)) v r
+    → core.Runs (label_by false style c (signs encoding sets bytes)) v r
 core_label c v style encoding sets bytes r e h k =
     let turned_is : style ≡ usual_turned c.state.size (turn_in c.state) =
     e ∙ ap (λ (d : Spot). record usual { width = c.state.size.width; height = c.state.size.height; direction = d })

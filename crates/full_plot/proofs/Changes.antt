@@ -33,7 +33,8 @@ use Rattle.full_plot.specs.Lines.{drawn_along, line_step, places_of, state_after
 use Rattle.full_plot.specs.Machine.{FullStep, Core, Print, Place, Tick, ArcThrough, Curve, PolygonBy, EdgeBuffer, FillBuffer, Rectangle, WedgeEdge, WedgeFill}
 use Rattle.full_plot.specs.Machine.{core_step, full_moved, marked, marked_in, touched_in}
 use Rattle.full_plot.specs.Polygons.{lined_by, lined_step, only_figure, trace_step}
-use Rattle.full_plot.specs.Texts.{at_margin, inked_at_pen, label_by, labelled, line_at, margin_by, marked_by, moved_by, moved_by_characters, put, shifted_by, signs_of, style_of, tick_distance, tick_end, ticked, with_margin}
+use Rattle.full_plot.specs.Bold.{bold_line, bold_lines, letter_lines}
+use Rattle.full_plot.specs.Texts.{are_bold, at_margin, inked_at_pen, label_by, labelled, letters_at_pen, line_at, margin_by, marked_by, moved_by, moved_by_characters, put, shifted_by, signs_of, style_of, tick_distance, tick_end, ticked, with_margin}
 use Rattle.full_plot.specs.Worlds.{FullWorld, full_followed, with_core}
 use Rattle.full_plot.proofs.HeldPolygons.{Follows, figured, follows_on, reached_hold, traced_holds, unchanged}
 
@@ -171,6 +172,22 @@ module _ {R : FullWorld → FullWorld → Type 0} {May : Type 0} (h : CoreChange
   inked : (w : FullWorld) (strokes : List (Spot × Spot)) → May → In (With w) (inked_at_pen w.core strokes)
   inked w strokes m = all_travelled (map (line_at w.core.state.place) strokes) w m
 
+  bold_line_drawn : (w : FullWorld) (places : List Spot) → May → In (With w) (bold_line w.core places)
+  bold_line_drawn w places m = in_if (With w) (are_in_range w.core.range places) _ (h.drawn w w.core.state _ w.run m)
+
+  all_bold : (ls : List (List Spot)) (w : FullWorld) → May → In (With w) (bold_lines w.core ls)
+  all_bold [] w m = same w
+  all_bold (l ∷ ls) w m =
+      core_then w (bold_line w.core l) (λ (c : core.World). bold_lines c ls) (bold_line_drawn w l m)
+      (λ (c : core.World). all_bold ls (record w { core = c }) m)
+
+  all_lettered : (is_bold : Bool) (ls : List (List Spot)) (w : FullWorld) → May → In (With w) (letter_lines is_bold w.core ls)
+  all_lettered true ls w m = all_bold ls w m
+  all_lettered false ls w m = all_travelled ls w m
+
+  lettered : (is_bold : Bool) (w : FullWorld) (strokes : List (Spot × Spot)) → May → In (With w) (letters_at_pen is_bold w.core strokes)
+  lettered is_bold w strokes m = all_lettered is_bold (map (line_at w.core.state.place) strokes) w m
+
   put_at : (w : FullWorld) (q : Spot) → May → In (With w) (put w.core q)
   put_at w q m =
       let p : Position = pen_placed w.core.page w.core.state.frame q in
@@ -179,15 +196,15 @@ module _ {R : FullWorld → FullWorld → Type 0} {May : Type 0} (h : CoreChange
       (travelled w true (p.place ∷ []) m)
       (λ (c : core.World) (k : With w c). h.joined w (record w { core = c }) _ k (moved_to (record w { core = c }) s w.margin))
 
-  label : (w : FullWorld) (style : Style) (signs : List Sign) → May → In (With w) (label_by style w.core signs)
-  label w style signs m =
+  label : (is_bold : Bool) (w : FullWorld) (style : Style) (signs : List Sign) → May → In (With w) (label_by is_bold style w.core signs)
+  label is_bold w style signs m =
       let end : Spot = moved_by w.core.state.place (styled_label_end style signs) in
-      core_then w (inked_at_pen w.core (styled_label_strokes style signs)) (λ (c : core.World). put c end)
-      (inked w (styled_label_strokes style signs) m) (λ (c : core.World). put_at (record w { core = c }) end m)
+      core_then w (letters_at_pen is_bold w.core (styled_label_strokes style signs)) (λ (c : core.World). put c end)
+      (lettered is_bold w (styled_label_strokes style signs) m) (λ (c : core.World). put_at (record w { core = c }) end m)
 
   -- labels and ticks
   pub labelled_holds : (w : FullWorld) (text : List ℕ) → May → In (R w) (labelled w text)
-  labelled_holds w text m = by_margin w _ _ (by_core w _ (in_else (With w) (nat_lt 67108864 (length text)) _ (label w (style_of w) (signs_of w text) m)))
+  labelled_holds w text m = by_margin w _ _ (by_core w _ (in_else (With w) (nat_lt 67108864 (length text)) _ (label (are_bold w) w (style_of w) (signs_of w text) m)))
 
   pub place_holds : (w : FullWorld) (n : CharacterMove) → May → In (R w) (moved_by_characters w n)
   place_holds w ToMargin m = by_margin w _ _ (by_core w _ (put_at w (margin_by w.margin (cell_offset (style_of w) (pos 0) (pos 1000000))) m))
@@ -231,7 +248,7 @@ module _ {R : FullWorld → FullWorld → Type 0} {May : Type 0} (h : CoreChange
 
   symbol_in : (symbol : Option ℕ) (w : FullWorld) → May → In (R w) (marked_by symbol w)
   symbol_in None w m = same w
-  symbol_in (Some byte) w m = by_core w _ (inked w _ m)
+  symbol_in (Some byte) w m = by_core w _ (lettered (are_bold w) w _ m)
 
   mark_in : (on : Bool) (w : FullWorld) → w.context.in_polygon ≡ on → MayLine w → In (R w) (marked_in on w)
   mark_in true w e m = same w

@@ -39,7 +39,7 @@ use Rattle.hpgl_plot.proofs.Polylines.{lines_then, lines_then_out, one_line}
 use Rattle.hpgl_plot.proofs.Travels.{IsKept, lines_keep, step_by}
 use Rattle.full_settings.specs.LetterParameters.{is_vector, pair_of}
 use Rattle.full_settings.specs.Letters.{LetterStyle, letter_size_in, style_in, usual_letters}
-use Rattle.full_settings.specs.declared.font.Font.{Font}
+use Rattle.full_settings.specs.Characters.{usual_font}
 use Rattle.full_settings.specs.declared.letter_size.LetterSize.{LetterSize}
 use Rattle.full_settings.specs.declared.heading.Heading.TheVariants.{Absolute}
 use Rattle.full_plot.specs.Texts.{label_by, line_at, moved_by, put, turn_by}
@@ -117,21 +117,21 @@ lines_then_put c ks q (Some u) h =
     (sym (lines_then c u true ks ((q ∷ []) ∷ []) h ∙ one_line u true (q ∷ [])))
 
 -- the style that core's labels have
-pub style_is : (l : LetterStyle) (h : Pair ℤ) (z : LetterSize) (font : Font) (size : CharacterSize) (points : Pair Ends) (r d : Rotation)
-    → l ≡ record usual_letters { heading = Absolute h; size = z } → letter_size_in z font size points ≡ pair_of size.width size.height
+pub style_is : (l : LetterStyle) (h : Pair ℤ) (z : LetterSize) (size : CharacterSize) (points : Pair Ends) (r d : Rotation)
+    → l ≡ record usual_letters { heading = Absolute h; size = z } → letter_size_in z usual_font size points ≡ pair_of size.width size.height
     → unit h.x h.y ≡ vector_turned (turn_by d) right
-    → style_in l font size points (turn_by r) ≡ usual_turned size (composed (turn_by r) (turn_by d))
-style_is l h z font size points r d e sized f =
+    → style_in l usual_font size points (turn_by r) ≡ usual_turned size (composed (turn_by r) (turn_by d))
+style_is l h z size points r d e sized f =
     let styled : Pair ℤ → Spot → Style = λ (p : Pair ℤ) (v : Spot). record usual { width = p.x; height = p.y; direction = v } in
     let own : Pair ℤ = pair_of size.width size.height in
-    ap (λ (m : LetterStyle). style_in m font size points (turn_by r)) e
+    ap (λ (m : LetterStyle). style_in m usual_font size points (turn_by r)) e
     ∙ ap (λ (p : Pair ℤ). styled p (vector_turned (turn_by r) (unit h.x h.y))) sized
     ∙ ap (λ (v : Spot). styled own (vector_turned (turn_by r) v)) f
     ∙ ap (styled own) (turned_twice (turn_by r) (turn_by d) right)
 
 pub label_as_in_core : (c : core.World) (style : Style) (encoding : Encoding) (sets : Sets) (bytes : List ℕ)
     → style ≡ usual_turned c.state.size (turn_in c.state) → IsTrue (is_core_text encoding sets bytes)
-    → label_by style c (signs encoding sets bytes) ≡ core.step c (Write bytes)
+    → label_by false style c (signs encoding sets bytes) ≡ core.step c (Write bytes)
 label_as_in_core c style encoding sets bytes e plain =
     let s : State = c.state in
     let t : Turn = turn_in s in

@@ -35,7 +35,7 @@ use Rattle.full_notes.specs.Contexts.{Context, first_context}
 use Rattle.full_plot.specs.Lines.{line_step, places_of}
 use Rattle.full_plot.specs.Machine.{core_step, marked, marked_in, full_moved, run, touched, touched_in}
 use Rattle.full_plot.specs.Polygons.{lined_by, lined_step, only_figure, with_buffer}
-use Rattle.full_plot.specs.Texts.{at_margin, if_short, label_by, labelled, marked_by, signs_of, style_of, then_shifted, turn_by, with_margin, written}
+use Rattle.full_plot.specs.Texts.{are_bold, at_margin, if_short, label_by, labelled, marked_by, signs_of, style_of, then_shifted, turn_by, with_margin, written}
 use Rattle.full_plot.specs.Worlds.{FullWorld, Writing, full_followed, with_core}
 use Rattle.full_plot.proofs.CoreLabels.{label_as_in_core, style_is, turn_in}
 use Rattle.full_plot.proofs.LinesAlong.{IsLine, solid_line}
@@ -142,14 +142,15 @@ core_written : (w : FullWorld) (text : List ℕ) → IsLikeCore (labelling w.cor
 core_written w text h k =
     let s : State = w.core.state in
     let l : IsLed (labelling s) w.writing.letters = h.led in
-    let label : Option core.World = label_by (style_of w) w.core (signs_of w text) in
+    let label : Option core.World = label_by false (style_of w) w.core (signs_of w text) in
     let font : selected_font w.characters ≡ usual_font = ap (λ (c : Characters). selected_font c) h.usual in
     let style : style_of w ≡ usual_turned s.size (turn_in s) =
     ap (λ (f : Font). style_in w.writing.letters f s.size s.frame.points (turn_by s.frame.rotation)) font
-    ∙ style_is w.writing.letters l.heading l.size usual_font s.size s.frame.points s.frame.rotation s.direction l.letters_are
+    ∙ style_is w.writing.letters l.heading l.size s.size s.frame.points s.frame.rotation s.direction l.letters_are
     (l.sized s.frame.points) l.leads in
     core_shifted text (labelled w text)
-    ∙ core_margin w (if_short text label) _
+    ∙ core_margin w (if_short text (label_by (are_bold w) (style_of w) w.core (signs_of w text))) _
+    ∙ ap (λ (f : Font). if_short text (label_by f.is_bold (style_of w) w.core (signs_of w text))) font
     ∙ rw k.short refl
     ∙ label_as_in_core w.core (style_of w) w.encoding w.characters.sets text style
     (and_from (reads_ascii w.encoding w.characters.sets) (list_all is_core_byte text) h.plain k.plain)

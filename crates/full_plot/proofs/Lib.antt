@@ -8,6 +8,7 @@ pub mod Solid
 pub mod LinesAlong
 pub mod Curved
 pub mod FullRuns
+pub mod BoldLines
 pub mod HeldPolygons
 pub mod Changes
 pub mod FullChanges

@@ -33,7 +33,7 @@ nothing_if : (s : State) → s.pen ≡ 0 → (draws : Bool) (places : List Spot)
 nothing_if s e true places = nothing_joined s e places
 nothing_if s e false places = refl
 
-has_a_pen : (s : State) → 1 ≤ s.pen → by_a_pen s ≡ s
+pub has_a_pen : (s : State) → 1 ≤ s.pen → by_a_pen s ≡ s
 has_a_pen s h = let e : max 1 s.pen ≡ s.pen = omega arith in ap (λ (n : ℕ). record s { pen = n }) e
 
 pub solid_joined : (s : State) (run : Option Run) (draws : Bool) (places : List Spot)

@@ -7,6 +7,7 @@ pub mod Lines
 pub mod Polygons
 pub mod Wedges
 pub mod Fills
+pub mod Bold
 pub mod Texts
 pub mod Curves
 pub mod Machine

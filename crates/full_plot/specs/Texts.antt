@@ -26,6 +26,7 @@ use Rattle.full_settings.specs.declared.letter_setting.LetterSetting.TheVariants
 use Rattle.full_settings.specs.Characters.{characters_after, selected_font}
 use Rattle.full_settings.specs.LineStyles.{distance}
 use Rattle.full_settings.specs.Letters.{letters_with, style_in, grains_of_share}
+use Rattle.full_plot.specs.Bold.{letter_lines}
 use Rattle.full_plot.specs.Worlds.{FullWorld, with_core}
 
 -- RO as a turn of directions
@@ -40,6 +41,10 @@ abbrev pub style_of : FullWorld → Style
 style_of w =
     let s = w.core.state in
     style_in w.writing.letters (selected_font w.characters) s.size s.frame.points (turn_by s.frame.rotation)
+
+-- whether letters are bold now
+abbrev pub are_bold : FullWorld → Bool
+are_bold w = (selected_font w.characters).is_bold
 
 -- the signs of a text, as it is read now
 abbrev pub signs_of : FullWorld → List ℕ → List Sign
@@ -64,6 +69,10 @@ line_at start stroke = moved_by start stroke.0 ∷ (moved_by start stroke.1 ∷ 
 abbrev pub inked_at_pen : core.World → List (Spot × Spot) → Option core.World
 inked_at_pen v strokes = core.travelled_all v true (map (line_at v.state.place) strokes)
 
+-- those of letters, which may be bold
+abbrev pub letters_at_pen : Bool → core.World → List (Spot × Spot) → Option core.World
+letters_at_pen is_bold v strokes = letter_lines is_bold v (map (line_at v.state.place) strokes)
+
 -- the pen is put at a place, with its coordinates recomputed
 abbrev pub put : core.World → Spot → Option core.World
 put v q = core.put_at v (pen_placed v.page v.state.frame q)
@@ -86,9 +95,9 @@ abbrev pub at_margin : FullWorld → FullWorld
 at_margin w = record w { margin = w.core.state.place }
 
 -- a label: its strokes, and then the pen is at its end
-abbrev pub label_by : Style → core.World → List Sign → Option core.World
-label_by style v signs =
-    core.followed (inked_at_pen v (styled_label_strokes style signs)) (λ (u : core.World).
+abbrev pub label_by : Bool → Style → core.World → List Sign → Option core.World
+label_by is_bold style v signs =
+    core.followed (letters_at_pen is_bold v (styled_label_strokes style signs)) (λ (u : core.World).
     put u (moved_by v.state.place (styled_label_end style signs)))
 
 -- a text of more than 2^26 bytes is out of range, but no plot has one, since it has at most so many bytes itself
@@ -100,7 +109,8 @@ abbrev pub labelled : FullWorld → List ℕ → Option FullWorld
 labelled w text =
     let style = style_of w in
     let signs = signs_of w text in
-    with_margin (margin_by w.margin (margin_move style signs)) (with_core w (if_short text (label_by style w.core signs)))
+    with_margin (margin_by w.margin (margin_move style signs))
+    (with_core w (if_short text (label_by (are_bold w) style w.core signs)))
 
 -- SO and SI in a text select a set for what follows it, too
 abbrev pub shifted_by : List ℕ → FullWorld → FullWorld
@@ -130,7 +140,7 @@ moved_by_characters w (By n) =
 abbrev pub marked_by : Option ℕ → FullWorld → Option FullWorld
 marked_by None w = Some w
 marked_by (Some byte) w =
-    with_core w (inked_at_pen w.core (styled_label_strokes (centred (style_of w)) (signs_of w (byte ∷ []))))
+    with_core w (letters_at_pen (are_bold w) w.core (styled_label_strokes (centred (style_of w)) (signs_of w (byte ∷ []))))
 
 -- a point that far above the pen for XT, or to the right for YT, if the page is not turned
 abbrev pub tick_point : Bool → ℤ → Spot

@@ -2,6 +2,7 @@
 //! ticks, curves, polygons and their fills, widths in percent and ranges of colours.
 #![tactic(auto)]
 
+mod bold;
 mod carrying;
 mod core_labels;
 mod curve_steps;

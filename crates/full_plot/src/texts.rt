@@ -11,8 +11,9 @@ ghost use Rattle.full_plot.specs.Machine.{seen, full_step, run, Runs, Letter, ma
 ghost use Rattle.full_plot.specs.Texts as texts;
 ghost use Rattle.full_plot.specs.Worlds.{with_core};
 
+use crate::bold::ink_letters;
 use crate::core_labels::is_as_in_core;
-use crate::ink::{ink, margin_by, moved_by};
+use crate::ink::{margin_by, moved_by};
 use crate::plotter::FullPlotter;
 use character_sets::{Encoding, Sets, Signs};
 use directions::Turn;
@@ -32,7 +33,15 @@ impl FullPlotter {
     {
         let lettering = self.lettering();
         let reading = self.reading();
-        self.margin = write_label(&mut self.plotter, &lettering, self.margin, reading, text)?;
+        let is_bold = self.characters.font().is_bold;
+        self.margin = write_label(
+            &mut self.plotter,
+            &lettering,
+            is_bold,
+            self.margin,
+            reading,
+            text,
+        )?;
         self.characters.pass_text(text);
         Ok(())
     }
@@ -45,7 +54,15 @@ impl FullPlotter {
         let reading = self.reading();
         let text = self.writing.text();
         let amount = text.len();
-        self.margin = write_label(&mut self.plotter, &lettering, self.margin, reading, text)?;
+        let is_bold = self.characters.font().is_bold;
+        self.margin = write_label(
+            &mut self.plotter,
+            &lettering,
+            is_bold,
+            self.margin,
+            reading,
+            text,
+        )?;
         self.characters.pass_text(text);
         self.work(amount);
         Ok(())
@@ -102,7 +119,8 @@ impl FullPlotter {
         let lettering = self.lettering().centred();
         let text = [symbol];
         let signs = self.reading().signs(&text);
-        ink(&mut self.plotter, lettering.strokes(signs))
+        let is_bold = self.characters.font().is_bold;
+        ink_letters(&mut self.plotter, lettering.strokes(signs), is_bold)
     }
 
     /// Sets how letters are written, as an instruction asks.
@@ -170,6 +188,7 @@ impl Reading {
 fn write_label(
     plotter: &mut Plotter,
     lettering: &Lettering,
+    is_bold: bool,
     margin: Spot,
     reading: Reading,
     text: &[u8],
@@ -179,13 +198,13 @@ fn write_label(
     ensures margin { IfOk result (λ after. after ≡ texts.margin_by margin
         (margin_move lettering.now.style (signs reading.encoding reading.sets text.now))) }
     ensures runs { core.Runs
-        (texts.if_short text.now (texts.label_by lettering.now.style (core.seen plotter.old)
+        (texts.if_short text.now (texts.label_by is_bold lettering.now.style (core.seen plotter.old)
         (signs reading.encoding reading.sets text.now))) (core.seen plotter.new) result }
 {
     if text.len() > LONGEST {
         return Err(Stop::OffRange);
     }
-    let moved = write_text(plotter, lettering, reading, text)?;
+    let moved = write_text(plotter, lettering, is_bold, reading, text)?;
     Ok(margin_by(margin, moved))
 }
 
@@ -194,6 +213,7 @@ fn write_label(
 fn write_text(
     plotter: &mut Plotter,
     lettering: &Lettering,
+    is_bold: bool,
     reading: Reading,
     text: &[u8],
 ) -> Result<Spot, Stop>
@@ -202,15 +222,19 @@ fn write_text(
     ensures moved { IfOk result (λ moved. moved
         ≡ margin_move lettering.now.style (signs reading.encoding reading.sets text.now)) }
     ensures runs { core.Runs
-        (texts.label_by lettering.now.style (core.seen plotter.old) (signs reading.encoding reading.sets text.now))
+        (texts.label_by is_bold lettering.now.style (core.seen plotter.old)
+        (signs reading.encoding reading.sets text.now))
         (core.seen plotter.new) result }
 {
+    if is_bold {
+        return write_in_style(plotter, lettering, true, reading.signs(text));
+    }
     let is_usual = is_as_in_core(&lettering.style, &plotter.state);
     if is_usual && is_core_text(reading.encoding, reading.sets, text) {
         plotter.write(text)?;
         Ok(lettering.margin_move(reading.signs(text)))
     } else {
-        write_in_style(plotter, lettering, reading.signs(text))
+        write_in_style(plotter, lettering, false, reading.signs(text))
     }
 }
 
@@ -218,17 +242,18 @@ fn write_text(
 fn write_in_style(
     plotter: &mut Plotter,
     lettering: &Lettering,
+    is_bold: bool,
     signs: Signs<'_>,
 ) -> Result<Spot, Stop>
     requires { length signs ≤ 2 ^ 26 }
     ensures within { IfOk result (IsWithin (2 ^ 95)) }
     ensures moved { IfOk result (λ moved. moved ≡ margin_move lettering.now.style signs.entry) }
     ensures runs { core.Runs
-        (texts.label_by lettering.now.style (core.seen plotter.old) signs.entry) (core.seen plotter.new) result }
+        (texts.label_by is_bold lettering.now.style (core.seen plotter.old) signs.entry) (core.seen plotter.new) result }
 {
     let start = plotter.state.place;
     let ends = lettering.ends(signs.again());
-    ink(plotter, lettering.strokes(signs))?;
+    ink_letters(plotter, lettering.strokes(signs), is_bold)?;
     plotter.put(moved_by(start, ends.pen))?;
     Ok(ends.margin)
 }

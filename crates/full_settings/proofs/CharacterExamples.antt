@@ -23,8 +23,8 @@ sets = refl
 -- the fonts of SD and AD
 fonts : Table font_setting (
     ([], Some usual_font_setting)  -- no pairs
-    -- all kinds
-    ∷ (pos 1000000 ∷ pos 14000000 ∷ pos 2000000 ∷ pos 1000000 ∷ pos 3000000 ∷ pos 12500000 ∷ pos 4000000 ∷ pos 23000000 ∷ [], Some (record { set = Some Latin1; is_proportional = Some true; pitch = Some 12500000; height = Some 23000000; has_unknown_set = false }))
+    -- a set, a spacing, a pitch and a height
+    ∷ (pos 1000000 ∷ pos 14000000 ∷ pos 2000000 ∷ pos 1000000 ∷ pos 3000000 ∷ pos 12500000 ∷ pos 4000000 ∷ pos 23000000 ∷ [], Some (record no_font { set = Some Latin1; is_proportional = Some true; pitch = Some 12500000; height = Some 23000000 }))
     ∷ (pos 3000000 ∷ pos 9000000 ∷ pos 3000000 ∷ pos 18000000 ∷ [], Some (record no_font { pitch = Some 18000000 }))  -- the last of a kind counts
     ∷ (pos 7000000 ∷ pos 48000000 ∷ [], Some no_font)  -- a kind that is not read: a typeface
     ∷ (pos 1000000 ∷ pos 14000000 ∷ pos 1000000 ∷ pos 9999000000 ∷ [], Some (record no_font { set = Some Latin1; has_unknown_set = true }))  -- a known set counts, and the other one is noted
@@ -35,6 +35,15 @@ fonts : Table font_setting (
     ∷ (pos 4000000 ∷ pos 99999 ∷ [], None)  -- height too small
     ∷ (pos 3000000 ∷ pos 1500000000 ∷ [], Some (record no_font { pitch = Some 1500000000 }))  -- greatest pitch
     ∷ (pos 3000000 ∷ pos 1500000001 ∷ [], None)  -- pitch too great
+    ∷ (pos 5000000 ∷ pos 1000000 ∷ [], Some (record no_font { is_italic = Some true }))  -- italic
+    ∷ (pos 5000000 ∷ pos 2499999 ∷ [], Some (record no_font { is_italic = Some true }))  -- the other italic, rounded
+    ∷ (pos 5000000 ∷ pos 3000000 ∷ [], Some (record no_font { is_italic = Some false }))  -- a posture that is not slanted
+    ∷ (pos 5000000 ∷ pos 0 ∷ pos 6000000 ∷ pos 0 ∷ [], Some (record no_font { is_italic = Some false; is_bold = Some false }))  -- upright, and medium
+    ∷ (pos 6000000 ∷ pos 2000000 ∷ [], Some (record no_font { is_bold = Some false }))  -- not quite bold
+    ∷ (pos 6000000 ∷ pos 3000000 ∷ [], Some (record no_font { is_bold = Some true }))  -- the least bold weight
+    ∷ (pos 6000000 ∷ pos 7000000 ∷ [], Some (record no_font { is_bold = Some true }))  -- the greatest weight
+    ∷ (pos 6000000 ∷ pos 8000000 ∷ [], Some (record no_font { is_bold = Some false }))  -- a weight that there is not
+    ∷ (pos 6000000 ∷ negsuc 2999999 ∷ [], Some (record no_font { is_bold = Some false }))  -- a light weight
     ∷ [])
 fonts = refl
 
@@ -67,6 +76,11 @@ font_of_the_other_set = refl
 font_of_the_set : selected_font (after (high ∷ setting.Select Alternate ∷ []) usual_characters) ≡ record usual_font { height = 23000000 }
 font_of_the_set = refl
 
+-- what is not named stays
+weight_of_the_set : selected_font (after (setting.Font Standard (record no_font { is_italic = Some true }) ∷ setting.Font Standard (record no_font { is_bold = Some true }) ∷ []) usual_characters)
+    ≡ record usual_font { is_italic = true; is_bold = true }
+weight_of_the_set = refl
+
 -- which settings name an unknown set
 unknown_sets : Table names_unknown_set (
     (setting.Set Standard None, true)  -- by a number
@@ -80,7 +94,7 @@ sizes : Table font_size (
     (usual_font, pair_of (pos 1216) (pos 1728))  -- usual
     ∷ (record usual_font { height = 23000000 }, pair_of (pos 1216) (pos 3456))  -- high
     ∷ (record usual_font { pitch = 18000000 }, pair_of (pos 608) (pos 1728))  -- narrow
-    ∷ (record { is_proportional = true; pitch = 18000000; height = 23000000 }, pair_of (pos 1980) (pos 3456))  -- proportional
-    ∷ (record { is_proportional = false; pitch = 100000; height = 1500000000 }, pair_of (pos 109440) (pos 225391))  -- the greatest
+    ∷ (record usual_font { is_proportional = true; pitch = 18000000; height = 23000000 }, pair_of (pos 1980) (pos 3456))  -- proportional
+    ∷ (record usual_font { pitch = 100000; height = 1500000000 }, pair_of (pos 109440) (pos 225391))  -- the greatest
     ∷ [])
 sizes = refl

@@ -1,6 +1,6 @@
 -- What the numbers of SR, SL, DI, DR, ES, LO and DV ask for, in millionths, and the styles of letters that they make.
 -- From P1 to P2 it is 300 plotter units in x, and -400 in y.
-use Rattle.std.proofs.Common.{◌≡◌, List, [], ◌∷◌, refl, pos, negsuc, Some, None}
+use Rattle.std.proofs.Common.{◌≡◌, List, [], ◌∷◌, refl, pos, negsuc, Some, None, true}
 use Rattle.exact.specs.Roots.{root_by}
 use Rattle.exact.proofs.Tables.{Agree}
 use Rattle.directions.specs.Directions.{surplus}
@@ -81,6 +81,20 @@ numbers : Agree (
     ∷ ((style_after (setting.RelativeSize (pair_of (pos 10000000) (pos 10000000)) ∷ setting.AbsoluteSize ∷ [])).width, pos 1216)  -- SI wins
     ∷ [])
 numbers = refl
+
+-- slants: upright, as SL says, and 0.2 more of an italic font, whatever SI says
+abbrev italic_after : List LetterSetting → Style
+italic_after xs = style_in (after xs usual_letters) (record usual_font { is_italic = true }) usual_size points turn.None
+
+slants : Agree (
+    ((style_after []).slant, pos 0)  -- upright
+    ∷ ((style_after (setting.Slant (pos 300000) ∷ [])).slant, pos 300000)  -- as SL says
+    ∷ ((italic_after []).slant, pos 200000)  -- italic
+    ∷ ((italic_after (setting.AbsoluteSize ∷ [])).slant, pos 200000)  -- italic, of SI's size
+    ∷ ((italic_after (setting.Slant (negsuc 499999) ∷ [])).slant, negsuc 299999)  -- SL to the left
+    ∷ ((italic_after (setting.Slant (pos 1000000000) ∷ [])).slant, pos 1000200000)  -- the greatest
+    ∷ [])
+slants = refl
 
 -- 4 percent of 300, and -3 percent of -400
 relative_diagonal : (style_after (setting.RelativeDirection (pair_of (pos 4000000) (negsuc 2999999)) ∷ [])).direction

@@ -26,15 +26,25 @@ set_choice selection (n ∷ ns) = setting.Set selection (set_with set_of_hp_numb
 -- nothing is named
 abbrev pub no_font : FontSetting
 no_font =
-    record { set = None; is_proportional = None; pitch = None; height = None; has_unknown_set = false }
+    record {
+      set = None;
+      is_proportional = None;
+      pitch = None;
+      height = None;
+      is_italic = None;
+      is_bold = None;
+      has_unknown_set = false;
+    }
 
--- all four are those of the start: Roman-8, fixed spacing, 9 characters an inch, 11.5 points
+-- all are those of the start: Roman-8, fixed spacing, 9 characters an inch, 11.5 points, upright, not bold
 abbrev pub usual_font_setting : FontSetting
 usual_font_setting = record {
   set = Some Roman8;
   is_proportional = Some false;
   pitch = Some 9000000;
   height = Some 11500000;
+  is_italic = Some false;
+  is_bold = Some false;
   has_unknown_set = false;
 }
 
@@ -51,8 +61,15 @@ spacing n = if int_eq n (pos 0) then Some false else if int_eq n (pos 1) then So
 abbrev pub size_of_font : ℤ → Option ℕ
 size_of_font n = when (is_between (pos 100000) (pos 1500000000) n) (nat_abs n)
 
--- one more pair: kind 1 is a set, by its number of HP-GL/2, 2 the spacing, 3 the pitch, 4 the height; any other kind
--- has no effect
+-- a posture is italic if it is 1 or 2, and a weight bold if it is 3 to 7
+abbrev pub is_italic_posture : ℤ → Bool
+is_italic_posture n = is_between (pos 1) (pos 2) n
+
+abbrev pub is_bold_weight : ℤ → Bool
+is_bold_weight n = is_between (pos 3) (pos 7) n
+
+-- one more pair: kind 1 is a set, by its number of HP-GL/2, 2 the spacing, 3 the pitch, 4 the height, 5 the posture,
+-- 6 the weight of strokes; any other kind has no effect
 abbrev pub with_kind : ℤ → ℤ → FontSetting → Option FontSetting
 with_kind kind value f =
     if int_eq kind (pos 1) then Some (with_set (set_with set_of_symbol_set (whole_of value)) f) else
@@ -60,6 +77,8 @@ with_kind kind value f =
     option_map (λ s. record f { is_proportional = Some s }) (spacing (whole_of value)) else
     if int_eq kind (pos 3) then option_map (λ p. record f { pitch = Some p }) (size_of_font value) else
     if int_eq kind (pos 4) then option_map (λ h. record f { height = Some h }) (size_of_font value) else
+    if int_eq kind (pos 5) then Some (record f { is_italic = Some (is_italic_posture (whole_of value)) }) else
+    if int_eq kind (pos 6) then Some (record f { is_bold = Some (is_bold_weight (whole_of value)) }) else
     Some f
 
 -- the pairs of a kind and a value, one after another

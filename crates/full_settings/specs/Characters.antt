@@ -21,9 +21,15 @@ pub record Characters : Type 0 where
   pub standard_font : Font
   pub alternate_font : Font
 
--- fixed spacing, 9 characters an inch, 11.5 points
+-- fixed spacing, 9 characters an inch, 11.5 points, upright, not bold
 abbrev pub usual_font : Font
-usual_font = record { is_proportional = false; pitch = 9000000; height = 11500000 }
+usual_font = record {
+  is_proportional = false;
+  pitch = 9000000;
+  height = 11500000;
+  is_italic = false;
+  is_bold = false;
+}
 
 -- at the start, and after IN and DF
 abbrev pub usual_characters : Characters
@@ -45,6 +51,8 @@ font_with f font = record {
   is_proportional = unwrap_or f.is_proportional font.is_proportional;
   pitch = unwrap_or f.pitch font.pitch;
   height = unwrap_or f.height font.height;
+  is_italic = unwrap_or f.is_italic font.is_italic;
+  is_bold = unwrap_or f.is_bold font.is_bold;
 }
 
 -- with a set and a font, if they are named

@@ -1,5 +1,5 @@
 -- What is set of the letters of labels besides the numbers of SI, and the style in which they are written.
-use Rattle.std.specs.Prelude.{ℕ, ◌*◌, ◌^◌, ◌≤◌, nat_abs, ℤ, pos, ◌*ℤ◌, ⊤}
+use Rattle.std.specs.Prelude.{ℕ, ◌*◌, ◌^◌, ◌≤◌, nat_abs, ℤ, pos, ◌+ℤ◌, ◌*ℤ◌, if◌then◌else◌, ⊤}
 use Rattle.exact.specs.Fraction.{round}
 use Rattle.exact.specs.declared.spot.Spot.{Spot}
 use Rattle.directions.specs.Directions.{unit, vector_turned}
@@ -75,13 +75,17 @@ abbrev pub direction_in : Heading → Pair Ends → Spot
 direction_in (Absolute h) points = unit h.x h.y
 direction_in (Relative h) points = unit (distance points.x *ℤ h.x) (distance points.y *ℤ h.y)
 
+-- the tangent of the slant in millionths: an italic font is slanted by 0.2 more than SL says
+abbrev pub slant_in_font : ℤ → Font → ℤ
+slant_in_font slant font = if font.is_italic then slant +ℤ pos 200000 else slant
+
 -- the style in which letters are written, by the font that is selected, SI's size, and P1 and P2, and turned by RO
 abbrev pub style_in : LetterStyle → Font → CharacterSize → Pair Ends → Turn → Style
 style_in l font size points turn = record {
   width = (letter_size_in l.size font size points).x;
   height = (letter_size_in l.size font size points).y;
   direction = vector_turned turn (direction_in l.heading points);
-  slant = l.slant;
+  slant = slant_in_font l.slant font;
   step_x = l.step.x;
   step_y = l.step.y;
   path = l.path;

@@ -16,6 +16,8 @@ const NO_FONT: FontSetting = FontSetting {
     is_proportional: None,
     pitch: None,
     height: None,
+    is_italic: None,
+    is_bold: None,
     has_unknown_set: false,
 };
 
@@ -25,6 +27,8 @@ const USUAL_FONT: FontSetting = FontSetting {
     is_proportional: Some(false),
     pitch: Some(9_000_000),
     height: Some(11_500_000),
+    is_italic: Some(false),
+    is_bold: Some(false),
     has_unknown_set: false,
 };
 
@@ -118,6 +122,14 @@ fn with_kind(kind: i64, value: Number, setting: FontSetting) -> Option<FontSetti
             height: Some(font_size(value.millionths())?),
             ..setting
         }),
+        5 => Some(FontSetting {
+            is_italic: Some(is_italic(whole_number(value))),
+            ..setting
+        }),
+        6 => Some(FontSetting {
+            is_bold: Some(is_bold(whole_number(value))),
+            ..setting
+        }),
         _ => Some(setting),
     }
 }
@@ -149,6 +161,20 @@ fn spacing(number: i64) -> Option<bool>
         1 => Some(true),
         _ => None,
     }
+}
+
+// Whether a posture is italic.
+fn is_italic(posture: i64) -> bool
+    ensures { result ≡ parameters.is_italic_posture posture }
+{
+    1 <= posture && posture <= 2
+}
+
+// Whether a weight is bold.
+fn is_bold(weight: i64) -> bool
+    ensures { result ≡ parameters.is_bold_weight weight }
+{
+    3 <= weight && weight <= 7
 }
 
 // A pitch or a height in millionths.

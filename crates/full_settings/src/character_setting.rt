@@ -39,6 +39,10 @@ pub struct FontSetting {
     pub pitch: Option<u32>,
     /// In millionths of points, from 0.1 to 1500 points.
     pub height: Option<u32>,
+    /// Whether letters are slanted by 0.2 more.
+    pub is_italic: Option<bool>,
+    /// Whether letters are drawn in twice the pen's width.
+    pub is_bold: Option<bool>,
     /// Whether it names a set that is not known, which changes nothing.
     pub has_unknown_set: bool,
 }

@@ -9,7 +9,8 @@ use crate::character_setting::FontSetting;
 use exact::rounded;
 use plot_frame::Pair;
 
-/// The font of a set of characters, as far as it has an effect: the size of its letters.
+/// The font of a set of characters, as far as it has an effect: the size of its letters, their slant and the width of their
+/// strokes.
 #[derive(Clone, Copy, Debug, PartialEq, Eq)]
 pub struct Font {
     /// Whether its spacing is proportional. Then its pitch has no effect.
@@ -18,6 +19,10 @@ pub struct Font {
     pub pitch: u32,
     /// In millionths of points, from 0.1 to 1500 points.
     pub height: u32,
+    /// Whether its letters are slanted by 0.2 more than SL says.
+    pub is_italic: bool,
+    /// Whether its letters are drawn in twice the pen's width.
+    pub is_bold: bool,
 }
 
 // How high a letter of 23 points is, and how wide one of proportional spacing, in grains.
@@ -26,11 +31,14 @@ const HEIGHT: u32 = 3456;
 const PROPORTIONAL_WIDTH: u32 = 1980;
 
 impl Font {
-    /// The font at the start, and after IN and DF: fixed spacing, 9 characters an inch, 11.5 points.
+    /// The font at the start, and after IN and DF: fixed spacing, 9 characters an inch, 11.5 points,
+    /// upright, not bold.
     pub const USUAL: Font = Font {
         is_proportional: false,
         pitch: 9_000_000,
         height: 11_500_000,
+        is_italic: false,
+        is_bold: false,
     };
 
     /// The width and the height of its letters in grains.
@@ -66,6 +74,8 @@ impl Font {
             is_proportional: setting.is_proportional.unwrap_or(self.is_proportional),
             pitch: setting.pitch.unwrap_or(self.pitch),
             height: setting.height.unwrap_or(self.height),
+            is_italic: setting.is_italic.unwrap_or(self.is_italic),
+            is_bold: setting.is_bold.unwrap_or(self.is_bold),
         }
     }
 }

@@ -19,6 +19,9 @@ use plot_frame::{Ends, Pair};
 use std::marker::Model;
 use stick_font::CharacterSize;
 
+// How much more the letters of an italic font are slanted, in millionths.
+const ITALIC_SLANT: i64 = 200_000;
+
 /// What is set of the letters of labels besides the numbers of SI (Absolute Character Size).
 #[derive(Clone, Copy, Debug)]
 pub struct Letters {
@@ -127,7 +130,7 @@ impl Letters {
                 width: size.x,
                 height: size.y,
                 direction: direction(self.heading, points).turned(turn),
-                slant: self.slant,
+                slant: slant_in_font(self.slant, font),
                 step_x: self.step.x,
                 step_y: self.step.y,
                 path: self.path,
@@ -155,6 +158,19 @@ impl Letters {
                 y: grains_of_share(distance(points.y), percents.y),
             },
         }
+    }
+}
+
+// The tangent of the slant in millionths, with that of the font.
+fn slant_in_font(slant: i64, font: Font) -> i64
+    requires { nat_abs slant ≤ 10 ^ 9 }
+    ensures value { result ≡ letters.slant_in_font slant font }
+    ensures most { nat_abs result ≤ 1000200000 }
+{
+    if font.is_italic {
+        slant + ITALIC_SLANT
+    } else {
+        slant
     }
 }
 

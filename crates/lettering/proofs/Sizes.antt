@@ -91,9 +91,9 @@ pub record IsSlanted (steps slant : ℤ) : Type 0 where
   pub fits : FitsSigned w128 (pos 3 *ℤ steps *ℤ slant)
   pub most : nat_abs (pos 3 *ℤ steps *ℤ slant) ≤ 2 ^ 46
 
-pub slanted_in : (steps slant : ℤ) → nat_abs steps ≤ 255 → nat_abs slant ≤ 1000000000 → IsSlanted steps slant
+pub slanted_in : (steps slant : ℤ) → nat_abs steps ≤ 255 → nat_abs slant ≤ 1000200000 → IsSlanted steps slant
 slanted_in steps slant u s =
-    let p = product_within (pos 3 *ℤ steps) slant 765 1000000000 (omega (arith, ints)) s in
+    let p = product_within (pos 3 *ℤ steps) slant 765 1000200000 (omega (arith, ints)) s in
     record {
       steps_fit = omega (arith, ints);
       up_fits = omega (arith, ints);

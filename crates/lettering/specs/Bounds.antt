@@ -7,15 +7,19 @@ use Rattle.directions.specs.Laws.{right}
 use Rattle.directions.specs.declared.turn.Turn.{Turn}
 use Rattle.lettering.specs.declared.style.Style.{Style}
 
+-- the greatest slant, 1000.2 in millionths: 1000, and 0.2 of an italic font
+abbrev pub most_slant : ℕ
+most_slant = 1000200000
+
 -- the greatest step, 101 in millionths
 abbrev pub most_step : ℕ
 most_step = 101000000
 
--- a slant of up to 1000 either way, steps of up to 101, and LO's numbers, 1 to 9 and 11 to 19
+-- a slant of up to 1000.2 either way, steps of up to 101, and LO's numbers, 1 to 9 and 11 to 19
 pub record IsStyle (style : Style) : Type 0 where
   pub width_in : nat_abs style.width ≤ 2 ^ 40
   pub height_in : nat_abs style.height ≤ 2 ^ 40
-  pub slant_in : nat_abs style.slant ≤ 1000000000
+  pub slant_in : nat_abs style.slant ≤ most_slant
   pub step_x_in : nat_abs style.step_x ≤ most_step
   pub step_y_in : nat_abs style.step_y ≤ most_step
   pub origin_digit : 1 ≤ style.origin % 10

@@ -7,8 +7,8 @@ use crate::style::Style;
 // The most grains of a size, 2^40.
 const MOST_SIZE: u64 = 0x100_0000_0000;
 
-// The greatest slant, 1000.
-const MOST_SLANT: u64 = 1_000_000_000;
+// The greatest slant, 1000.2.
+const MOST_SLANT: u64 = 1_000_200_000;
 
 // The greatest step, 101.
 const MOST_STEP: u64 = 101_000_000;

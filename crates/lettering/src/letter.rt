@@ -118,7 +118,7 @@ fn on_grid(corner: i128, steps: i64) -> i128
 #[inline]
 fn slanted(steps: i64, slant: i64, height: i64) -> i128
     requires steps_in { nat_abs steps ≤ 255 }
-    requires slant_in { nat_abs slant ≤ 1000000000 }
+    requires slant_in { nat_abs slant ≤ 1000200000 }
     requires height_in { nat_abs height ≤ 2 ^ 40 }
     ensures value { result ≡ labels.share (pos 3 *ℤ steps *ℤ slant) height (18 * 10 ^ 6) }
     ensures most { nat_abs result ≤ 2 ^ 84 }
@@ -133,7 +133,7 @@ fn slanted(steps: i64, slant: i64, height: i64) -> i128
 // The same in millionths of parts of the height.
 fn slanted_parts(steps: i64, slant: i64) -> i128
     requires steps_in { nat_abs steps ≤ 255 }
-    requires slant_in { nat_abs slant ≤ 1000000000 }
+    requires slant_in { nat_abs slant ≤ 1000200000 }
     ensures value { result ≡ pos 3 *ℤ steps *ℤ slant }
     ensures most { nat_abs result ≤ 2 ^ 46 }
 {

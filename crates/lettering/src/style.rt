@@ -32,7 +32,7 @@ pub struct Style {
     pub height: i64,
     /// Where the label's x axis points (HP-GL/2: DI and DR).
     pub direction: Direction,
-    /// The tangent of the letters' slant in millionths, within 1000 of 0 (HP-GL/2: SL).
+    /// The tangent of the letters' slant in millionths, within 1000.2 of 0 (HP-GL/2: SL, and the posture of the font).
     pub slant: i64,
     /// The step to the next letter along x, in millionths of one and a half widths, within 101 of 0: 1
     /// more than the first number of ES.

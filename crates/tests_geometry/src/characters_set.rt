@@ -79,33 +79,54 @@ Select(Alternate)
 // SD and AD, by numbers of HP-GL/2.
 SD;AD1,14;SD2,1;AD3,12.5;SD4,23;
 Font(Standard, FontSetting { set: Some(Roman8), is_proportional: Some(false), pitch: Some(9000000), \
-    height: Some(11500000), has_unknown_set: false })
+    height: Some(11500000), is_italic: Some(false), is_bold: Some(false), has_unknown_set: false })
 Font(Alternate, FontSetting { set: Some(Latin1), is_proportional: None, pitch: None, height: None, \
-    has_unknown_set: false })
+    is_italic: None, is_bold: None, has_unknown_set: false })
 Font(Standard, FontSetting { set: None, is_proportional: Some(true), pitch: None, height: None, \
-    has_unknown_set: false })
+    is_italic: None, is_bold: None, has_unknown_set: false })
 Font(Alternate, FontSetting { set: None, is_proportional: None, pitch: Some(12500000), height: None, \
-    has_unknown_set: false })
+    is_italic: None, is_bold: None, has_unknown_set: false })
 Font(Standard, FontSetting { set: None, is_proportional: None, pitch: None, height: Some(23000000), \
-    has_unknown_set: false })
+    is_italic: None, is_bold: None, has_unknown_set: false })
 
 // All pairs are read, in their order.
 SD1,39,2,0,3,9,4,12,5,1,6,3,7,48,3,10;SD1,14,1,33;AD1,9999,1,14;
 Font(Standard, FontSetting { set: Some(German), is_proportional: Some(false), pitch: Some(10000000), \
-    height: Some(12000000), has_unknown_set: false })
+    height: Some(12000000), is_italic: Some(true), is_bold: Some(true), has_unknown_set: false })
 Font(Standard, FontSetting { set: Some(Latin1), is_proportional: None, pitch: None, height: None, \
-    has_unknown_set: true }), unknown
+    is_italic: None, is_bold: None, has_unknown_set: true }), unknown
 Font(Alternate, FontSetting { set: Some(Latin1), is_proportional: None, pitch: None, height: None, \
-    has_unknown_set: true }), unknown
+    is_italic: None, is_bold: None, has_unknown_set: true }), unknown
 
 // Kinds, sets and spacings are rounded, and pitches and heights are not.
 SD.9,14.4,2.2,-.5;SD4,.1,3,1500;SD4,1500,3,.1;
 Font(Standard, FontSetting { set: Some(Latin1), is_proportional: Some(false), pitch: None, height: None, \
-    has_unknown_set: false })
+    is_italic: None, is_bold: None, has_unknown_set: false })
 Font(Standard, FontSetting { set: None, is_proportional: None, pitch: Some(1500000000), height: Some(100000), \
-    has_unknown_set: false })
+    is_italic: None, is_bold: None, has_unknown_set: false })
 Font(Standard, FontSetting { set: None, is_proportional: None, pitch: Some(100000), height: Some(1500000000), \
-    has_unknown_set: false })
+    is_italic: None, is_bold: None, has_unknown_set: false })
+
+// Postures are italic if they are 1 or 2, and weights bold if they are 3 to 7.
+SD5,1;SD5,2.4;AD5,3;SD5,0;AD6,3;SD6,7.4;SD6,2;SD6,8;SD6,-3;
+Font(Standard, FontSetting { set: None, is_proportional: None, pitch: None, height: None, \
+    is_italic: Some(true), is_bold: None, has_unknown_set: false })
+Font(Standard, FontSetting { set: None, is_proportional: None, pitch: None, height: None, \
+    is_italic: Some(true), is_bold: None, has_unknown_set: false })
+Font(Alternate, FontSetting { set: None, is_proportional: None, pitch: None, height: None, \
+    is_italic: Some(false), is_bold: None, has_unknown_set: false })
+Font(Standard, FontSetting { set: None, is_proportional: None, pitch: None, height: None, \
+    is_italic: Some(false), is_bold: None, has_unknown_set: false })
+Font(Alternate, FontSetting { set: None, is_proportional: None, pitch: None, height: None, \
+    is_italic: None, is_bold: Some(true), has_unknown_set: false })
+Font(Standard, FontSetting { set: None, is_proportional: None, pitch: None, height: None, \
+    is_italic: None, is_bold: Some(true), has_unknown_set: false })
+Font(Standard, FontSetting { set: None, is_proportional: None, pitch: None, height: None, \
+    is_italic: None, is_bold: Some(false), has_unknown_set: false })
+Font(Standard, FontSetting { set: None, is_proportional: None, pitch: None, height: None, \
+    is_italic: None, is_bold: Some(false), has_unknown_set: false })
+Font(Standard, FontSetting { set: None, is_proportional: None, pitch: None, height: None, \
+    is_italic: None, is_bold: Some(false), has_unknown_set: false })
 
 // An odd count, and values out of range, also after others.
 SD4;SD1,14,2;AD2,2;AD2,-1;AD3,.099999;AD3,1500.000001;SD4,0;SD4,1500.000001;SD1,9999,4,0;SD4,0,4,12;
@@ -124,7 +145,7 @@ wrong
 
 #[test]
 fn choices(rt: HostRuntime) -> Result<(), Fail> {
-    has_answers(&rt, rt.alloc(), Asked::Choices, CHOICES, 7)
+    has_answers(&rt, rt.alloc(), Asked::Choices, CHOICES, 8)
 }
 
 const CHOSEN: &str = "\

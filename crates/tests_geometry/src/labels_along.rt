@@ -316,7 +316,7 @@ fn ranges(rt: HostRuntime) {
     wanted[20] = false;
     wanted[21] = false;
     assert_eq!(rt; origins, wanted);
-    let slants = [mirrored(-1_000_000_000), mirrored(-1_000_000_001)];
+    let slants = [mirrored(-1_000_200_000), mirrored(-1_000_200_001)];
     assert!(rt; Lettering::new(slants[0]).is_some() && Lettering::new(slants[1]).is_none());
 }
 

@@ -45,6 +45,11 @@ fn further_setting(further: Further, numbers: &Numbers<'_>) -> Option<LetterSett
 // The style after a text, with a font of 23 points and 18 characters an inch, letters of 100 by 200 grains by SI, P1
 // (10, 20) and P2 (310, -380).
 fn style_after(text: &[u8], turn: Turn) -> Style {
+    style_in_font(text, turn, false)
+}
+
+// The same, if the font may be italic.
+fn style_in_font(text: &[u8], turn: Turn, is_italic: bool) -> Style {
     let mut letters = Letters::usual();
     for item in Items::by_profile(Profile::Full, text) {
         if let Some(setting) = setting_of(&item.body) {
@@ -69,6 +74,8 @@ fn style_after(text: &[u8], turn: Turn) -> Style {
         is_proportional: false,
         pitch: 18_000_000,
         height: 23_000_000,
+        is_italic,
+        is_bold: false,
     };
     letters.lettering(font, size, &points, turn).style
 }
@@ -196,4 +203,17 @@ slant 0, steps 1000000 1000000, LO1, Up Normal, 0 -1073741824
 #[test]
 fn other_settings(rt: HostRuntime) -> Result<(), Fail> {
     has_answers(&rt, rt.alloc(), Asked::Styles, OTHER_SETTINGS, 2)
+}
+
+fn italic_slant(text: &[u8]) -> i64 {
+    style_in_font(text, Turn::None, true).slant
+}
+
+#[test]
+fn slants_of_italic_fonts(rt: HostRuntime) -> Result<(), Fail> {
+    assert_eq!(rt; italic_slant(b""), 200_000);
+    assert_eq!(rt; italic_slant(b"SI1,1;SL.5;"), 700_000);
+    assert_eq!(rt; italic_slant(b"SL-1000;"), -999_800_000);
+    assert_eq!(rt; italic_slant(b"SL1000;SR;"), 1_000_200_000);
+    Ok(())
 }

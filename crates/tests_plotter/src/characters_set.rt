@@ -162,3 +162,50 @@ PM;CS5;SD3,2000;SS;PM2;
 fn notes_on_sets_and_fonts(rt: HostRuntime) -> Result<(), Fail> {
     has_answers(&rt, rt.alloc(), Asked::Notes, NOTES, 3)
 }
+
+const POSTURES_AND_WEIGHTS: &str = "\
+// italic, with SL, and by SI
+SD5,2;PU0,0;LBL\x03
+346,1728 0,0 224;0,0 1216,0 224;
+
+SD5,1;SL-.2;SI.2,.2;PU0,0;LBL\x03
+0,1280 0,0 224;0,0 1280,0 224;
+
+// bold, of SI's size
+SD6,3;SI.2,.2;PU0,0;LBL\x03
+0,1280 0,0 448;0,0 1280,0 448;
+
+// by the usual size, and italic as well
+SD6,3;PU0,0;LBL\x03
+0,1728 0,0 448;0,0 1216,0 448;
+
+SD6,3;SD5,1;SI.2,.2;PU0,0;LBL\x03
+256,1280 0,0 448;0,0 1280,0 448;
+
+// no wider than a pen may be
+PW15;SD6,7;SI.2,.2;PU0,0;LBL\x03
+0,1280 0,0 12800;0,0 1280,0 12800;
+
+// a text has the font of its begin
+AD6,5;SI.2,.2;PU0,0;LB.\x0e.\x03LB.\x03
+640,0 640,0 224;2560,0 2560,0 224;4480,0 4480,0 448;
+
+// symbols are bold, lines and ticks are not
+SD6,3;SI.2,.2;IP0,0,300,400;SM.;PD50,0;SM;XT;
+0,0 800,0 224;800,-640 800,-640 448;800,-32 800,32 224;
+
+// pen 0 draws no letter, and none is out of range
+SD6,3;SI.2,.2;SP0;PU0,0;LBL\x03SP1;PD0,0;
+1920,0 0,0 224;
+
+// not italic and not bold any more
+SD5,1,6,3;SD;SI.2,.2;PU0,0;LBL\x03
+0,1280 0,0 224;0,0 1280,0 224;
+
+SD5,1,6,3;DF;SI.2,.2;PU0,0;LBL\x03
+0,1280 0,0 224;0,0 1280,0 224;";
+
+#[test]
+fn postures_and_weights(rt: HostRuntime) -> Result<(), Fail> {
+    has_answers(&rt, rt.alloc(), Asked::Fills, POSTURES_AND_WEIGHTS, 11)
+}
