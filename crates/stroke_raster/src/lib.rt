@@ -45,6 +45,7 @@ pub use layout::Layout;
 pub use marks::Marks;
 pub use nearness::near;
 pub use painter::{BandPainter, PaintFault};
+pub use pixel::{centre_of, is_between};
 pub use short::Short;
 pub use slope::{Inverse, Slope};
 pub use strip::Span;

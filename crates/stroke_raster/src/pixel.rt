@@ -17,8 +17,8 @@ use plot_page::{Dots, Page, Stroke, Window};
 // resolution wide: an inch has 1016 plotter units of 16 grains.
 const LEAST_WIDTH: u32 = 24384;
 
-// The centre of a pixel, or of the one that would follow a row's last. It is an odd number of half
-// pixels, 8,128 steps each, from the page's left and upper edges.
+/// The centre of a pixel, or of the one that would follow a row's last, in grains divided by the resolution. It is an odd number of half
+/// pixels, 8,128 steps each, from the left and upper edges of the page.
 #[inline(always)]
 pub fn centre_of(page: &Page, dots: Dots, row: u32, column: u32) -> Vector
     requires row_in { row < rows_of page.now dots }

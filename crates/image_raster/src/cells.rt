@@ -1,0 +1,68 @@
+//! Images over rows of cells.
+ghost use Rattle.std.specs.Prelude.{◌≡◌, ◌≤◌, ◌<◌, ◌+◌, ◌^◌, length, get_or};
+ghost use Rattle.plot_page.specs.Resolutions.{columns_of, rows_of};
+ghost use Rattle.image_raster.specs.Cells.{mark_of, is_over, covered, AreWith, AreWithOne};
+
+use crate::placed::PlacedImage;
+use image_colours::Colour;
+use plot_page::{Dots, Page};
+
+// The least mark of a colour: above the positions of all strokes.
+const LEAST_MARK: u32 = 2_147_483_648;
+
+/// The mark of a colour, which a cell has if its pixel shows an image.
+pub fn mark_of(colour: Colour) -> u32
+    ensures { result ≡ mark_of colour }
+{
+    LEAST_MARK
+        + ((u32::from(colour.red) * 256 + u32::from(colour.green)) * 256 + u32::from(colour.blue))
+}
+
+/// Paints images, in their order, over the cells of a row of pixels from column 0 on: each where it shows a colour, over the
+/// strokes that were drawn before it.
+pub fn paint_images(
+    images: &[PlacedImage<'_>],
+    page: &Page,
+    dots: Dots,
+    row: u32,
+    cells: &mut [u32],
+)
+    requires row_in { row < rows_of page.now dots }
+    requires columns_in { length cells.old ≤ columns_of page.now dots }
+    ensures { AreWith images.now page.now dots row cells.old cells.new }
+{
+    for image in images {
+        image.paint(page, dots, row, cells);
+    }
+}
+
+impl<'a> PlacedImage<'a> {
+    // Paints it over the cells of a row.
+    fn paint(&self, page: &Page, dots: Dots, row: u32, cells: &mut [u32])
+        requires row_in { row < rows_of page.now dots }
+        requires columns_in { length cells.old ≤ columns_of page.now dots }
+        ensures { AreWithOne self.now page.now dots row cells.old cells.new }
+    {
+        for column in 0..cells.len() {
+            let shown = self.shown_at_pixel(page, dots, row, column as u32);
+            cells[column] = covered(self.before, shown, cells[column]);
+        }
+    }
+}
+
+// A cell, over which an image may show a colour.
+fn covered(before: u32, shown: Option<Colour>, cell: u32) -> u32
+    ensures { result ≡ covered before shown cell }
+{
+    match shown {
+        Some(colour) if is_over(before, cell) => mark_of(colour),
+        _ => cell,
+    }
+}
+
+// Whether an image, before which so many strokes were drawn, lies over what a cell shows.
+fn is_over(before: u32, cell: u32) -> bool
+    ensures { result ≡ is_over before cell }
+{
+    cell <= before || cell >= LEAST_MARK
+}

@@ -1,0 +1,13 @@
+//! Images on pages of pixels: which colours they show, over which strokes.
+#![tactic(auto)]
+
+mod cells;
+mod dots;
+pub mod laws;
+mod placed;
+mod way;
+
+pub use cells::{mark_of, paint_images};
+pub use directions::Turn;
+pub use placed::PlacedImage;
+pub use raster_graphics::{Image, Place};
