@@ -1,1 +1,2 @@
 pub mod LastShapes
+pub mod Extents

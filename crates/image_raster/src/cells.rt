@@ -43,9 +43,14 @@ impl<'a> PlacedImage<'a> {
         requires columns_in { length cells.old ≤ columns_of page.now dots }
         ensures { AreWithOne self.now page.now dots row cells.old cells.new }
     {
-        for column in 0..cells.len() {
-            let shown = self.shown_at_pixel(page, dots, row, column as u32);
-            cells[column] = covered(self.before, shown, cells[column]);
+        if self.misses(page, dots, row) {
+            return;
+        }
+        let reached = self.columns_reached(dots, cells.len() as u32);
+        for column in reached.low..reached.end {
+            let shown = self.shown_at_pixel(page, dots, row, column);
+            let at = column as usize;
+            cells[at] = covered(self.before, shown, cells[at]);
         }
     }
 }

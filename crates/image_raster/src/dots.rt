@@ -11,7 +11,6 @@ use crate::placed::PlacedImage;
 use crate::way::{Way, across, along, from_corner, number_at};
 use image_colours::Colour;
 use plot_page::{Dots, Page, Window};
-use raster_graphics::Image;
 use stroke_raster::{Vector, centre_of, is_between};
 
 impl<'a> PlacedImage<'a> {
@@ -29,7 +28,7 @@ impl<'a> PlacedImage<'a> {
     }
 
     // The way from its corner to a place.
-    fn way_to(&self, dots: Dots, place: Vector) -> Way
+    pub(crate) fn way_to(&self, dots: Dots, place: Vector) -> Way
         requires { Within (2 ^ 34) place }
         ensures value { vector result ≡ way (scaled (pos dots.resolution) (corner self.now)) place }
         ensures x_small { nat_abs result.x ≤ 2 ^ 45 }
@@ -48,11 +47,21 @@ impl<'a> PlacedImage<'a> {
         ensures { result ≡ shown_on_way self.now dots.resolution (vector way) }
     {
         let density = self.image.settings.resolution.number();
-        shown_in(
-            self.image,
+        self.shown_in(
             number_at(density, dots, across(self.turn, way)),
             number_at(density, dots, along(self.turn, way)),
         )
+    }
+
+    // What it shows at numbers that may be no rows and no dots.
+    fn shown_in(&self, row: i128, column: i128) -> Option<Colour>
+        ensures { result ≡ shown_in self.now.image.now row column }
+    {
+        if is_number(row) && is_number(column) {
+            self.image.shown_in_order(row as u32, column as u32)
+        } else {
+            None
+        }
     }
 }
 
@@ -64,19 +73,8 @@ fn is_in_window(window: Window, dots: Dots, place: Vector) -> bool
         && is_between(window.y0, window.y1, dots, place.y)
 }
 
-// What an image shows at numbers that may be no rows and no dots.
-fn shown_in(image: &Image, row: i128, column: i128) -> Option<Colour>
-    ensures { result ≡ shown_in image.now row column }
-{
-    if is_number(row) && is_number(column) {
-        image.shown_at(row as u32, column as u32)
-    } else {
-        None
-    }
-}
-
-// Whether a number may be that of a row or of a dot.
-fn is_number(number: i128) -> bool
+/// Whether a number may be that of a row or of a dot.
+pub fn is_number(number: i128) -> bool
     ensures { result ≡ is_number number }
 {
     0 <= number && number <= 4_294_967_295

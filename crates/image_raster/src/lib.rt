@@ -4,7 +4,9 @@
 mod cells;
 mod dots;
 pub mod laws;
+mod missed;
 mod placed;
+mod reach;
 mod way;
 
 pub use cells::{mark_of, paint_images};

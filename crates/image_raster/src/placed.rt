@@ -1,4 +1,6 @@
 //! Images that lie on a page.
+ghost use Rattle.raster_graphics.specs.Laws.{RowsAscend};
+
 use directions::Turn;
 use plot_page::Window;
 use raster_graphics::{Image, Place};
@@ -16,4 +18,5 @@ pub struct PlacedImage<'a> {
     pub window: Window,
     /// How many strokes are drawn before it.
     pub before: u32,
+    pub ghost ordered: { RowsAscend image.now },
 }

@@ -1,28 +1,22 @@
 -- Requests keep rows in order.
-use Rattle.std.proofs.Common.{◌≡◌, ◌∙◌, sym, ap, subst, refl, ℕ, zero, suc, ◌+◌, ◌-◌, ◌^◌, ◌<◌, ◌≤◌, min, max, Bool, true, false, cond, if◌then◌else◌, nat_le, nat_lt, ℤ, pos, negsuc, List, [], ◌∷◌, ◌++◌, length, get_or, Option, Some, None, is_some, Result, Ok, Err, arith}
-use Rattle.std.specs.List.{All, AllPairs}
+use Rattle.std.proofs.Common.{◌≡◌, subst, refl, ℕ, ◌+◌, ◌^◌, ◌<◌, ◌≤◌, min, max, Bool, true, false, cond, if◌then◌else◌, nat_le, pos, negsuc, List, [], ◌∷◌, ◌++◌, Option, Some, None, is_some, Result, Ok, Err, arith}
+use Rattle.std.specs.List.{All}
 use Rattle.std.proofs.lemmas.List.Quantifiers.{all_pairs_push}
 use Rattle.std.proofs.lemmas.List.Elements.{All-nil, All-push, All-weaker}
-use Rattle.image_rows.specs.declared.compression.Compression.{Compression}
 use Rattle.image_rows.specs.declared.compression.Compression.TheVariants.{Unencoded}
-use Rattle.image_rows.specs.declared.compression.RowLength.{RowLength}
-use Rattle.image_rows.specs.declared.compression.RowLength.TheVariants.{Fixed, UpTo}
 use Rattle.image_rows.specs.declared.ending.Ending.{Ending}
-use Rattle.image_rows.specs.Rows.{whole_row, row_of, sized, is_too_long}
 use Rattle.image_rows.specs.Endings.{ending_of}
-use Rattle.image_rows.proofs.RowLaws.{rows_have_their_width_lem}
-use Rattle.image_colours.specs.Counts.{plane_count, plane_bytes}
 use Rattle.raster_graphics.specs.declared.fault.Answer.{Answer}
 use Rattle.raster_graphics.specs.declared.fault.Fault.{Fault}
-use Rattle.raster_graphics.specs.declared.fault.Fault.TheVariants.{TooFar, TooMuch}
+use Rattle.raster_graphics.specs.declared.fault.Fault.TheVariants.{TooFar}
 use Rattle.raster_graphics.specs.declared.place.Place.{Place}
 use Rattle.raster_graphics.specs.declared.settings.Settings.{Settings}
 use Rattle.raster_graphics.specs.declared.line.Line.{Line}
 use Rattle.raster_graphics.specs.declared.image.Image.{Image}
 use Rattle.raster_graphics.specs.declared.open_image.OpenImage.{OpenImage}
 use Rattle.raster_graphics.specs.declared.machine.Machine.{Machine}
-use Rattle.raster_graphics.specs.Settings.{plane_size, is_past, advanced, with_setting}
-use Rattle.raster_graphics.specs.Rows.{Sending, is_full, is_too_much, plane_of, next_plane, breaks, and_then, filled, whole_line}
+use Rattle.raster_graphics.specs.Settings.{is_past, advanced, with_setting}
+use Rattle.raster_graphics.specs.Rows.{next_plane, breaks, whole_line}
 use Rattle.raster_graphics.specs.Images.{opened, settings_of, image_of, with_row, moved_to, next_begin, is_far}
 use Rattle.raster_requests.specs.declared.image.Corner.{Corner}
 use Rattle.raster_requests.specs.declared.image.Corner.TheVariants.{AtMargin}
@@ -30,12 +24,12 @@ use Rattle.raster_requests.specs.declared.request.Request.{Request}
 use Rattle.raster_requests.specs.declared.request.Request.TheVariants as request
 use Rattle.raster_requests.specs.declared.request.Request.TheVariants.{Set, Start, End, EndAndReset, Compress, MoveRows, Plane, LastPlane, PalettePart, PaletteEntry, Enter, Reset, EndPage, Nothing}
 use Rattle.image_colours.specs.Palettes.{has_entry}
-use Rattle.raster_graphics.specs.declared.machine.TheConstants.{MOST_BYTES}
 use Rattle.raster_graphics.specs.Places.{density_from, after_change}
 use Rattle.raster_graphics.specs.Machines.{Step, no_planes, no_parts, origin, answer_of, with_line, in_reach, row_added, with_whole_line, done, bad, start, ending_at, ended, closed, after_close}
 use Rattle.raster_graphics.specs.Machines.{moved_in, moved_by, rows_moved, image_at, corner_of, with_data, unmoved, sending_to, plane_in, row_in, is_settled, set_or_bad, with_unit, at_place, place_changed, with_colour, reset, obeyed}
 use Rattle.raster_graphics.specs.Machines as machines
-use Rattle.raster_graphics.specs.Laws.{Ascends, RowsAscend, OpenAscends, IsInOrder, RowsStayInOrder}
+use Rattle.raster_graphics.specs.Positions.{Ascends}
+use Rattle.raster_graphics.specs.Laws.{RowsAscend, OpenAscends, IsInOrder, RowsStayInOrder}
 
 -- what a step leaves is in order
 InOrder : Step → Type 0

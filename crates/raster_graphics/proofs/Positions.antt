@@ -1,5 +1,10 @@
 -- Rows that are passed, one after another.
-use Rattle.std.proofs.Common.{◌≡◌, ◌≢◌, ◌∙◌, sym, ap, refl, ℕ, suc, ◌+◌, ◌<◌, ◌≤◌, Bool, cond, ◌==◌, List, [], length, drop, get_or, Option, Some, None, option_map, arith}
+use Rattle.std.proofs.Common.{◌≡◌, ◌≢◌, ◌∙◌, sym, ap, refl, subst, inl, inr, ℕ, zero, suc, ◌+◌, ◌<◌, ◌≤◌, Bool, cond, ◌==◌, List, [], length, drop, get_or, Option, Some, None, option_map, Result, Ok, Err, MatchResult, arith}
+use Rattle.std.proofs.lemmas.Bool.{cases_lt}
+use Rattle.std.proofs.lemmas.List.Sorted.{searched}
+use Rattle.std.specs.List.Sorted.{IsBinarySearchResult}
+use Rattle.std.specs.Ordering.{nat_cmp}
+use Rattle.raster_graphics.specs.Positions.{Ascends}
 use Rattle.std.proofs.lemmas.Bool.{ne_eqb, eq-eqb}
 use Rattle.std.proofs.Math.Seq.{drop-cons}
 use Rattle.std.proofs.Math.ListN.{drop_of_length-le}
@@ -53,3 +58,42 @@ none_found row position numbers h e = sym (e
   where
     drop_past : (xs : List ℕ) (n : ℕ) → length xs ≤ n → drop n xs ≡ []
     drop_past xs n h = drop_of_length-le xs h
+
+-- numbers that are none of the row's are passed
+passed : (row count : ℕ) (numbers : List ℕ) → count ≤ length numbers → ((j : ℕ) → j < count → get_or numbers j 0 ≢ row)
+    → position_of row numbers ≡ later count (position_of row (drop count numbers))
+passed row zero numbers h others = none_passed row numbers
+passed row (suc count) numbers h others =
+    let next : count + 1 ≡ suc count = omega arith in
+    subst (λ (n : ℕ). position_of row numbers ≡ later n (position_of row (drop n numbers))) next
+    (one_passed row count numbers (omega arith) (others count (omega arith)) (passed row count numbers (omega arith) (λ j k. others j (omega arith))))
+
+-- numbers that ascend: a row has one position, wherever it is found
+pub found_in_order : (row position : ℕ) (numbers : List ℕ) → Ascends numbers → position < length numbers → get_or numbers position 0 ≡ row
+    → Some position ≡ position_of row numbers
+found_in_order row position numbers up h here =
+    found_at row position numbers h here
+    (passed row position numbers (omega arith) (λ j k e. absurd (omega (arith, up j position 0 k h, e, here))))
+
+-- or none
+pub none_in_order : (row : ℕ) (numbers : List ℕ) → ((k : ℕ) → k < length numbers → get_or numbers k 0 ≢ row) → None ≡ position_of row numbers
+none_in_order row numbers others =
+    none_found row (length numbers) numbers (omega arith) (passed row (length numbers) numbers (omega arith) others)
+
+rising : (numbers : List ℕ) → Ascends numbers → (i j : ℕ) → i ≤ j → j < length numbers → get_or numbers i 0 ≤ get_or numbers j 0
+rising numbers up i j h k = elim (cases_lt i j) [
+  | inl before ↦ omega (arith, up i j 0 before k)
+  | inr same ↦ (let e : i ≡ j = omega arith in omega (arith, ap (λ (n : ℕ). get_or numbers n 0) e))
+]
+
+-- what a search through them gives
+pub searched_in_order : (row : ℕ) (numbers : List ℕ) (found : Result ℕ ℕ) → Ascends numbers
+    → IsBinarySearchResult (λ y. nat_cmp y row) numbers found → MatchResult found (λ i. Some i ≡ position_of row numbers) (λ i. None ≡ position_of row numbers)
+searched_in_order row numbers (Ok i) up h =
+    let at = searched numbers row (Ok i) h (rising numbers up) in found_in_order row i numbers up at.0 at.1
+searched_in_order row numbers (Err i) up h =
+    let at = searched numbers row (Err i) h (rising numbers up) in
+    none_in_order row numbers (λ k l e. elim (cases_lt k i) [
+      | inl before ↦ absurd (omega (arith, at.1 k before, e))
+      | inr after ↦ absurd (omega (arith, at.2 k after l, e))
+    ])

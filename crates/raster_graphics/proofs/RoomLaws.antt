@@ -1,12 +1,12 @@
 -- No request makes more bytes of planes than there is room for.
-use Rattle.std.proofs.Common.{◌≡◌, ◌∙◌, sym, ap, subst, refl, ℕ, zero, suc, ◌+◌, ◌-◌, ◌^◌, ◌<◌, ◌≤◌, ◌⊎◌, inl, inr, Bool, true, false, cond, if◌then◌else◌, nat_le, nat_lt, ℤ, pos, negsuc, List, [], ◌∷◌, ◌++◌, length, get_or, Option, Some, None, is_some, Result, Ok, Err, arith}
+use Rattle.std.proofs.Common.{◌≡◌, sym, ap, subst, refl, ℕ, zero, suc, ◌+◌, ◌-◌, ◌^◌, ◌≤◌, Bool, true, false, cond, if◌then◌else◌, nat_le, pos, negsuc, List, [], ◌∷◌, ◌++◌, length, get_or, Option, Some, None, is_some, Result, Ok, Err, arith}
 use Rattle.std.proofs.lemmas.Bool.{ltb-false}
 use Rattle.image_rows.specs.declared.compression.Compression.{Compression}
 use Rattle.image_rows.specs.declared.compression.Compression.TheVariants.{Unencoded}
 use Rattle.image_rows.specs.declared.compression.RowLength.{RowLength}
 use Rattle.image_rows.specs.declared.compression.RowLength.TheVariants.{Fixed, UpTo}
 use Rattle.image_rows.specs.declared.ending.Ending.{Ending}
-use Rattle.image_rows.specs.Rows.{whole_row, row_of, sized, is_too_long}
+use Rattle.image_rows.specs.Rows.{whole_row, row_of}
 use Rattle.image_rows.specs.Endings.{ending_of}
 use Rattle.image_rows.proofs.RowLaws.{rows_have_their_width_lem}
 use Rattle.image_colours.specs.Counts.{plane_count, plane_bytes}

@@ -1,12 +1,13 @@
 -- What holds of the machine.
 use Rattle.std.specs.Prelude.{◌≡◌, ℕ, ◌+◌, ◌<◌, ◌≤◌, List, [], ◌∷◌, length, Option, Some, None, Ok, ⊤}
-use Rattle.std.specs.List.{All, AllPairs}
+use Rattle.std.specs.List.{All}
 use Rattle.raster_requests.specs.declared.request.Request.{Request}
 use Rattle.raster_graphics.specs.declared.fault.Answer.{Answer}
 use Rattle.raster_graphics.specs.declared.image.Image.{Image}
 use Rattle.raster_graphics.specs.declared.open_image.OpenImage.{OpenImage}
 use Rattle.raster_graphics.specs.declared.machine.Machine.{Machine}
 use Rattle.raster_graphics.specs.declared.machine.TheConstants.{MOST_BYTES}
+use Rattle.raster_graphics.specs.Positions.{Ascends}
 use Rattle.raster_graphics.specs.Machines.{start, closed, obeyed}
 
 -- how many bytes planes have
@@ -35,9 +36,6 @@ pub record PlanesHaveRoom : Type 0 where
   pub close : (m n : Machine) → closed m ≡ Ok n → held n ≤ held m
 
 -- the numbers of an image's rows ascend
-abbrev pub Ascends : List ℕ → Type 0
-Ascends numbers = AllPairs (λ a b. a < b) numbers
-
 abbrev pub RowsAscend : Image → Type 0
 RowsAscend image = Ascends image.numbers
 

@@ -1,5 +1,6 @@
 //! The dots of an image that is done.
-ghost use Rattle.std.specs.Prelude.{◌≡◌, ◌^◌, ◌<◌};
+ghost use Rattle.std.specs.Prelude.{◌≡◌, ◌^◌, ◌<◌, Some};
+ghost use Rattle.raster_graphics.specs.Laws.{RowsAscend};
 ghost use Rattle.raster_graphics.specs.Dots.{colour_in, colour_at, is_white, if_shown, shown_at};
 
 use crate::image::Image;
@@ -23,6 +24,25 @@ impl Image {
         ensures { result ≡ shown_at self.now row column }
     {
         let colour = self.colour_at(row, column)?;
+        self.if_shown(colour)
+    }
+
+    /// The same of an image whose rows ascend, as those of a machine do, without a search through all of them.
+    pub fn shown_in_order(&self, row: u32, column: u32) -> Option<Colour>
+        requires { RowsAscend self.now }
+        ensures { result ≡ shown_at self.now row column }
+    {
+        if column as u64 >= self.width {
+            return None;
+        }
+        let position = self.numbers.find(row)?;
+        self.if_shown(self.colour_in(position, column))
+    }
+
+    // A colour that it has, if it shows it.
+    fn if_shown(&self, colour: Colour) -> Option<Colour>
+        ensures { result ≡ if_shown self.now.settings.is_opaque (Some colour) }
+    {
         if self.settings.is_opaque || !is_white(colour) {
             Some(colour)
         } else {

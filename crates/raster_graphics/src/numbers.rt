@@ -1,5 +1,6 @@
 //! The numbers of the rows that are sent.
 ghost use Rattle.std.specs.Prelude.{◌≡◌, ℕ, ◌<◌, ◌^◌, List, [], ◌∷◌, ◌++◌, OnOk, IfSome};
+ghost use Rattle.raster_graphics.specs.Positions.{Ascends};
 ghost use Rattle.raster_graphics.specs.Positions.{position_of};
 
 use std::alloc::{AllocError, Global};
@@ -40,6 +41,23 @@ impl Numbers {
     {
         self.numbers.push(number)?;
         Ok(())
+    }
+
+    /// Where a number is among them, if they ascend. Rows are mostly sent without gaps, so it is tried first at its own place.
+    pub fn find(&self, row: u32) -> Option<usize>
+        requires { Ascends self.now }
+        ensures value { result ≡ position_of row self.now }
+        ensures near { IfSome result (λ position. position < 2 ^ 61) }
+    {
+        let numbers = self.numbers.as_slice();
+        let place = row as usize;
+        if place < numbers.len() && numbers[place] == row {
+            return Some(place);
+        }
+        match numbers.binary_search(&row) {
+            Ok(position) => Some(position),
+            Err(_) => None,
+        }
     }
 
     /// Where a number is among them.
