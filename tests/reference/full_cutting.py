@@ -22,7 +22,7 @@ FURTHER_WITH_NUMBERS = "CP XT YT PM EP FP RA RR EW WG AT RT BZ BR".split() + [
 # Instructions that draw by the numbers before a wrong byte.
 DRAWN_IN_PART = "PU PD PA PR BZ BR".split()
 WITHOUT_EFFECT = """
-    PS NP LA TR MC PP MT QL ST VS FS AS AP EC GC GM FN FI SB DS IV CM CF CC LM TD RF MG IM KY
+    PS NP LA MC PP MT QL ST VS FS AS AP EC GC GM FN FI SB DS IV CM CF CC LM TD RF MG IM KY
     DC DP OA OC OD OE OF OG OH OI OK OL OO OP OS OT OW
 """.split()
 # A comment: a quoted text if one comes first, and all up to its `;`.

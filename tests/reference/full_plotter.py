@@ -155,11 +155,21 @@ class FullPlotter(FullSettings):
 
     def ink(self, a, b, width=None):
         """Draws a stroke, by default with the pen's width."""
-        if self.pen:
-            self.add(1, [self.stroke(a, b, self.width() if width is None else width)])
+        if not self.is_hidden(self.ink_colour()):
+            self.add(1, [self.stroke(a, b, self.width() if width is None else width, self.ink_colour())])
 
-    def stroke(self, a, b, width):
-        return Stroke(self.pen, self.colour(), width, self.window, a, b, self.sheet, self.label, len(self.labels))
+    def stroke(self, a, b, width, colour):
+        return Stroke(self.pen, colour, width, self.window, a, b, self.sheet, self.label, len(self.labels))
+
+    def ink_colour(self):
+        """The colour of lines and letters, of which a screen leaves a part."""
+        if self.screen is None:
+            return self.colour()
+        return tuple(255 - rounded((255 - part) * self.screen, 100 * MILLION) for part in self.colour())
+
+    def is_hidden(self, colour):
+        """Whether the pen draws nothing in a colour."""
+        return not self.pen or self.hides_white and tuple(colour) == (255, 255, 255)
 
     def add(self, count, shapes):
         """Draws shapes of so many strokes and edges; after too many the plot is refused, and none are needed."""
@@ -186,8 +196,8 @@ class FullPlotter(FullSettings):
         else:
             phase = self.run[1] % ticks if self.run and self.run[0] == a else 0
             end, dashes = (phase + long) % ticks, line_types.Fixed(pattern, ticks, phase, long)
-        if self.pen:
-            self.add(dashes.count(), Dashes(self.stroke(a, b, self.width()), long, dashes))
+        if not self.is_hidden(self.ink_colour()):
+            self.add(dashes.count(), Dashes(self.stroke(a, b, self.width(), self.ink_colour()), long, dashes))
         self.run = (b, end)
 
     def reach(self, place):
@@ -347,10 +357,11 @@ class FullPlotter(FullSettings):
         """Fills the buffer."""
         rule = whole(*(listed(numbers, 0, 1) or [0]), 0, 1)
         self.sum += self.buffer.size
-        if not self.pen:
+        is_hatched = self.fill_type in (HATCHING, CROSS_HATCHING)
+        if self.is_hidden(self.ink_colour() if is_hatched else self.colour()):
             return
         edges = [(a, b) for a, b, _ in self.buffer.edges()]
-        if self.fill_type in (HATCHING, CROSS_HATCHING):
+        if is_hatched:
             angle = self.angle + 1000 * self.rotation
             for more in (0, 90_000)[: 1 if self.fill_type == HATCHING else 2]:
                 self.fill(fills.Lines(angle + more, self.distance_of_hatching(), self.anchor), edges, rule, self.line)
@@ -362,7 +373,7 @@ class FullPlotter(FullSettings):
             self.add(len(edges), [Area(self.pen, self.colour(), self.window, tuple(edges), rule, self.sheet, len(self.labels))])
 
     def shade(self, a, b):
-        self.ink(a, b, USUAL_WIDTH)
+        self.add(1, [self.stroke(a, b, USUAL_WIDTH, self.colour())])
 
     def fill(self, lines, edges, rule, drawn):
         """Draws each span, by a call; one that gives no stroke counts as one."""

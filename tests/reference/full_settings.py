@@ -28,6 +28,8 @@ STANDARD, ALTERNATE = 0, 1
 SET, SPACING, PITCH, HEIGHT, POSTURE, WEIGHT = 1, 2, 3, 4, 5, 6
 # How much more an italic font is slanted.
 ITALIC_SLANT = 200_000
+# Screens of SV that are not drawn.
+OTHER_SCREENS = 2, 11, 21, 22
 SOLID_FILLS, HATCHING, CROSS_HATCHING, SHADING, PATTERNS = (1, 2), 3, 4, 10, (11, 21, 22)
 
 
@@ -87,6 +89,7 @@ class FullSettings(Plotter):
         self.fill_type, self.spacing, self.angle, self.level = 1, 0, 0, 50 * MILLION
         self.anchor = (0, 0)
         self.are_chords_usual = False
+        self.hides_white, self.screen = False, None
 
     # Line types
 
@@ -332,6 +335,22 @@ class FullSettings(Plotter):
         """How far ticks reach up and down, in percent of the distances from P1 to P2."""
         up, down = (*(listed(numbers, 0, 1, 2) or USUAL_TICK), 0)[:2]
         self.tick = tuple(within(n, -1000 * MILLION, 1000 * MILLION) for n in (up, down))
+
+    # How strokes show
+
+    def TR(self, numbers):
+        """Whether white strokes and areas are not there."""
+        self.hides_white = whole(*(listed(numbers, 0, 1) or [MILLION]), 0, 1) == 1
+
+    def SV(self, numbers):
+        """How much of a pen's colour strokes have."""
+        kind, *rest = listed(numbers, 0, 1, 2) or [0]
+        kind = rounded(kind, MILLION)
+        if kind not in (0, 1, *OTHER_SCREENS):
+            raise Bad
+        level = within(*(rest or [50 * MILLION]), 0, 100 * MILLION) if kind == 1 else None
+        self.screen = level
+        return "skipped" if kind in OTHER_SCREENS else None
 
     # Fills and chords
 

@@ -28,6 +28,7 @@ THEMES = [
         "dashes run LT EP polygon FP RR hatching PD PU AC",
         "WU WU PW PW PT SP PD PR IP mirrored PE hatching RR",
         "CR CR PC PC SP PD DF IN BP",
+        "white white TR TR SV SV SP PD LB RR FT EP edge PC DF",
         "restored restored restored PD LB RR",
         "kept kept kept kept PD LB",
         f"LB LB LB SR SI {LETTERS} LO LO DV CP CP RO mirrored IP DF PU",
@@ -55,7 +56,7 @@ THEMES = [
 ]
 DRAWING = ("PD", "PD", "PR", "PE", "EA", "ER", "CI", "AA", "LB", "RR", "EP", "FP", "BZ", "AT", "WG", "YT", "solid")
 KNOWN = (
-    b"PS100,200;", b"NP8;", b"LA1,4,2,4;", b"TR0;", b"MC1;", b"PP", b"VS20",
+    b"PS100,200;", b"NP8;", b"LA1,4,2,4;", b"MC1;", b"PP", b"VS20",
     b"OE;", b"OI", b"DP", b"GM;", b"FN2", b"ST", b"RF1,1,1,0;", b"LM1;", b"TD1", b'QL"PD;"', b"EC", b"ow",
 )
 # Numbers of sets in SD and AD, and in CS and CA; the last two of each have no set.
@@ -129,6 +130,7 @@ class FullWriter(AreaWriter):
             "restored": self.restored,
             "kept": self.kept,
             "flat": self.flat_arc,
+            "white": lambda: self.pick(b"PC1,255,255,255;", b"PC1,255,255,254;SP1;", b"SP;PC0,9,9,9;", b"TR;PC1,255,255,255;"),
             "sheet": lambda: self.pick(b"PG", b"AF", b"AH", b"NR", b"FR", b"pg") + self.pick(*WITHOUT_NUMBERS),
             "known": lambda: self.pick(*KNOWN),
             "characters": self.chosen_characters,
@@ -235,6 +237,14 @@ class FullWriter(AreaWriter):
 
     of_AD = of_SD
 
+    def of_TR(self):
+        return self.pick([], [0], [MILLION], [MILLION, 5 * MILLION], [499_999], *([[2 * MILLION], [-MILLION]] if self.is_wild else []))
+
+    def of_SV(self):
+        level = self.pick(0, 100, 50, 12.5, 99.999999, self.upto(100), *((100.000001, -1) if self.is_wild else ()))
+        kind = self.pick(0, 1, 1, 1, 1, 2, 11, 21, 22, *((3, -1) if self.is_wild else ())) * MILLION
+        return self.pick([], [kind], [kind, round(level * MILLION)], [kind, round(level * MILLION)])
+
     def symbol(self):
         symbol = self.pick(b"*", b"X", b"a", b".", b"!", b"~", b" ", b"\x7f", b"\xff", b"\x1b", b'"', b"")
         return b"SM" + symbol + self.pick(b";", b";", b"", b",1;") + self.piece(self.pick("PD", "PU", "PR", "PE"))
@@ -273,7 +283,8 @@ class FullWriter(AreaWriter):
             (b"FT3,5,20;", b"RR9,9;"), (b"FT3,5,20;", b"FT3;RR9,9;"), (b"FT10,9;", b"FT10;RR30,30;"),
             (b"AC3,2;", b"FT4,5;RR20,20;"), (b"CT1;", b"CI10,90;"), (b"PM;PD9,9,9,0;", b"PD20,20;EP;"), (b"EA9,9;", b"EP;FP;"),
             (b"DT$;", b"LBa\x03b$"), (b"PT2;", b"PD9,9;"), (b"RA5,5;PG;", b"PD9,9;"), (b"PU9,9;LB\n\x03", b"CP;LBa\x03"),
-            (b"IR10,10,60,60;", b"FT3;RR30,30;"), (b"SD5,1;AD6,3;", b"LBaa\x0ea\x03"), (b"IP40,30,0,0;", b"SR;LBa\x03"),
+            (b"IR10,10,60,60;", b"FT3;RR30,30;"), (b"SD5,1;AD6,3;", b"LBaa\x0ea\x03"),
+            (b"TR;", b"PC1,255,255,255;PD9,9;RR5,5;"), (b"SV1,30;", b"PD9,9;RR5,5;"), (b"IP40,30,0,0;", b"SR;LBa\x03"),
         )
         return setting + self.pick(b"IN;", b"DF;", b"BP", b"BP1;", b"IN,;", b"DF!;", b"IN!;", b"") + shown
 

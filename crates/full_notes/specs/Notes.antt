@@ -11,6 +11,7 @@ use Rattle.hpgl_plot.specs.declared.note.NoteKind.TheVariants.{Skipped, Bad}
 use Rattle.hpgl_plot.specs.Notes.{notes_with, parameters_noted}
 use Rattle.hpgl_plot.specs.Notes as core
 use Rattle.full_settings.specs.declared.fill_setting.FillSetting.TheVariants.{Pattern}
+use Rattle.full_settings.specs.declared.ink_setting.InkSetting.TheVariants.{OtherScreen}
 use Rattle.full_settings.specs.declared.polygon_setting.PolygonStep.{PolygonStep}
 use Rattle.full_settings.specs.declared.polygon_setting.PolygonStep.TheVariants.{Begin, Close, End}
 use Rattle.full_settings.specs.declared.requests.FurtherRequest.{FurtherRequest}
@@ -69,11 +70,12 @@ bad_without None = Some Bad
 abbrev pub bad_if : Bool → Option NoteKind
 bad_if is_wrong = if is_wrong then Some Bad else None
 
--- what is noted on a further instruction: that its numbers are wrong, or that it has no effect, as patterns of FT and
--- sets that are not known have not; numbers after those of whole curves draw nothing, and are wrong
+-- what is noted on a further instruction: that its numbers are wrong, or that it has no effect, as patterns of FT and SV
+-- and sets that are not known have not; numbers after those of whole curves draw nothing, and are wrong
 abbrev pub request_noted : FurtherRequest → List ℤ → Option NoteKind
 request_noted request.Wrong ns = Some Bad
 request_noted (request.Fill Pattern) ns = Some Skipped
+request_noted (request.Ink OtherScreen) ns = Some Skipped
 request_noted (request.Characters s) ns = if names_unknown_set s then Some Skipped else None
 request_noted (request.Curves relative) ns = if are_curves ns then None else Some Bad
 request_noted _ ns = None

@@ -7,7 +7,9 @@ ghost use Rattle.full_notes.specs.Notes.{bad_if, bad_without, body_noted, reques
 
 use crate::context::Context;
 use crate::reading::{arc_read, circle_read, is_misplaced, request_read};
-use full_settings::{FillSetting, FurtherRequest, are_curves, colour_in, percent_setting};
+use full_settings::{
+    FillSetting, FurtherRequest, InkSetting, are_curves, colour_in, percent_setting,
+};
 use hpgl_plot::NoteKind;
 use hpgl_text::{Body, Instruction, Item, Numbers};
 use plot_settings::{Request, request_of};
@@ -42,6 +44,7 @@ pub fn noted_request(request: &FurtherRequest, numbers: &Numbers<'_>) -> Option<
     match request {
         FurtherRequest::Wrong => Some(NoteKind::Bad),
         FurtherRequest::Fill(FillSetting::Pattern) => Some(NoteKind::Skipped),
+        FurtherRequest::Ink(InkSetting::OtherScreen) => Some(NoteKind::Skipped),
         FurtherRequest::Characters(setting) if setting.names_unknown_set() => {
             Some(NoteKind::Skipped)
         }

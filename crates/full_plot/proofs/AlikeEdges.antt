@@ -8,6 +8,7 @@ use Rattle.plot_page.specs.Segments.{Segment}
 use Rattle.polygons.specs.declared.lines.Rule.{Rule}
 use Rattle.polygons.specs.declared.span.Span.{Span}
 use Rattle.hpgl_plot.specs.declared.state.State.{State}
+use Rattle.hpgl_plot.specs.Inks.{unscreened}
 use Rattle.hpgl_plot.specs.Machine as core
 use Rattle.full_plot.specs.Drawings.{AreAlike, LooksAs}
 use Rattle.full_plot.specs.Fills.{area_of, inked_span, over_spans, span_stroke, unless}
@@ -43,7 +44,7 @@ unless_inked false w v look h = h
 
 -- how spans look that are 0 wide
 abbrev pub thin_look : State → Segment
-thin_look s = record (span_stroke s (record { from = page_origin; to = page_origin })) { width = 0 }
+thin_look s = record (span_stroke (unscreened s) (record { from = page_origin; to = page_origin })) { width = 0 }
 
 pub spans_inked : (ps : List Span) (w : FullWorld) → AreInked w.core.kept (over_spans (Width 0) w ps).core.kept (thin_look w.core.state)
 spans_inked [] w = none_inked w.core.kept (thin_look w.core.state)
@@ -52,7 +53,7 @@ spans_inked (p ∷ ps) w =
     let look = thin_look w.core.state in
     unless_inked w.core.full w (over_spans (Width 0) v ps) look
     (then_inked w.core.kept v.core.kept (over_spans (Width 0) v ps).core.kept look
-    (one_inked w.core.kept w.core.full (record (span_stroke w.core.state p) { width = 0 }) look refl) (spans_inked ps v))
+    (one_inked w.core.kept w.core.full (record (span_stroke (unscreened w.core.state) p) { width = 0 }) look refl) (spans_inked ps v))
 
 -- strokes that look as one look as each other
 alike_by : (look : Segment) (ss : List Segment) → look.width ≡ 0 → All (LooksAs look) ss → AreAlike ss

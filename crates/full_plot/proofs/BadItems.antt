@@ -12,6 +12,7 @@ use Rattle.plot_settings.specs.Slants.{is_off_axis}
 use Rattle.hpgl_plot.specs.declared.note.NoteKind.TheVariants.{Axis, Bad, Skipped}
 use Rattle.hpgl_plot.specs.Notes.{parameters_noted}
 use Rattle.full_settings.specs.declared.fill_setting.FillSetting.TheVariants as fill
+use Rattle.full_settings.specs.declared.ink_setting.InkSetting.TheVariants as ink
 use Rattle.full_settings.specs.declared.polygon_setting.PolygonStep.TheVariants as step
 use Rattle.full_settings.specs.declared.requests.FurtherRequest.{FurtherRequest}
 use Rattle.full_settings.specs.declared.requests.FurtherRequest.TheVariants as request
@@ -147,6 +148,8 @@ further_no_curves of.ArcRelativeThreePoint ns read t = not_curves (request.Arc t
 further_no_curves of.BezierAbsolute ns read t = absurd (true≢false t)
 further_no_curves of.BezierRelative ns read t = absurd (true≢false t)
 further_no_curves of.ChordTolerance ns read t = not_curves request.Chords (λ a. refl) _
+further_no_curves of.Transparency ns read t = not_curves request.Ink (λ a. refl) _
+further_no_curves of.ScreenedVectors ns read t = not_curves request.Ink (λ a. refl) _
 further_no_curves of.RelativePoints ns read t = not_curves request.Points (λ a. refl) _
 further_no_curves of.ColourRange ns read t = not_curves request.Colours (λ a. refl) _
 further_no_curves of.StandardFont ns read t = not_curves request.Characters (λ a. refl) _
@@ -173,6 +176,9 @@ request_nothing c (request.Fill fill.Solid) ns h k = absurd (cc)
 request_nothing c (request.Fill fill.Pattern) ns h k = absurd (cc)
 request_nothing c (request.Fill (fill.Hatched cross spacing angle)) ns h k = absurd (cc)
 request_nothing c (request.Fill (fill.Shaded level)) ns h k = absurd (cc)
+request_nothing c (request.Ink (ink.HidesWhite hides)) ns h k = absurd (cc)
+request_nothing c (request.Ink (ink.Screen level)) ns h k = absurd (cc)
+request_nothing c (request.Ink ink.OtherScreen) ns h k = absurd (cc)
 request_nothing c r ns h k = absurd (cc)
 
 body_nothing : (c : Context) (b : BodyShape) → noted_on c b ≡ Some Bad → draws_in_part b ≡ false → Nothing (full_steps c b) c (after_body c b)

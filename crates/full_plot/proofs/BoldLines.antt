@@ -1,9 +1,9 @@
 -- The lines of bold letters, one after another.
-use Rattle.std.proofs.Common.{◌≡◌, ◌≤◌, sym, ap, inl, inr, refl, arith, nat_eq, true, List, [], ◌∷◌, Option, Some, None}
+use Rattle.std.proofs.Common.{◌≡◌, sym, ap, inl, inr, refl, true, List, [], ◌∷◌, Option, Some, None, false}
 use Rattle.std.proofs.lemmas.Bool.{cases_Bool}
-use Rattle.std.proofs.lemmas.Bool.Decides.{nat_tests}
 use Rattle.std.proofs.lemmas.Option.{none-some, same_Some}
 use Rattle.exact.specs.declared.spot.Spot.{Spot}
+use Rattle.hpgl_plot.specs.Inks.{draws_nothing}
 use Rattle.hpgl_plot.specs.Machine.{World, followed, travelled, with_strokes}
 use Rattle.hpgl_plot.specs.Strokes.{are_in_range, is_in_range, stroke}
 use Rattle.hpgl_plot.proofs.Travels.{IsKept}
@@ -42,15 +42,12 @@ bold_out_second w a b h = elim (cases_Bool (is_in_range w.range b)) [
 ]
 
 -- and one of two places in range
-pub bold_made : (w v u : World) (a b : Spot) → travelled w true (a ∷ []) ≡ Some v → travelled w true (b ∷ []) ≡ Some u → 1 ≤ w.state.pen
+pub bold_made : (w v u : World) (a b : Spot) → travelled w true (a ∷ []) ≡ Some v → travelled w true (b ∷ []) ≡ Some u → draws_nothing w.state ≡ false
     → bold_line w (a ∷ (b ∷ [])) ≡ Some (with_strokes w w.state (bolder (stroke w.state a b) ∷ []))
 bold_made w v u a b h k pen = elim (cases_Bool (is_in_range w.range a)) [
   | inr t ↦ absurd (none-some v (rw t at h))
   | inl t ↦ elim (cases_Bool (is_in_range w.range b)) [
     | inr i ↦ absurd (none-some u (rw i at k))
-    | inl i ↦ elim (cases_Bool (nat_eq w.state.pen 0)) [
-      | inl e ↦ absurd (grind (arith, nat_tests))
-      | inr e ↦ rw (t, i, e) refl
-    ]
+    | inl i ↦ rw (t, i, pen) refl
   ]
 ]

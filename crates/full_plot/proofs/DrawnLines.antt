@@ -8,7 +8,7 @@ use Rattle.std.proofs.lemmas.Bool.{cases_Bool}
 use Rattle.std.proofs.lemmas.Int.{ints}
 use Rattle.std.proofs.lemmas.Option.{same_Some}
 use Rattle.std.specs.List.{All}
-use Rattle.std.specs.Prelude.{nat_eq, ◌-ℤ◌}
+use Rattle.std.specs.Prelude.{◌-ℤ◌}
 use Rattle.exact.specs.declared.spot.Spot.{Spot}
 use Rattle.plot_page.specs.Segments.{Segment}
 use Rattle.hpgl_plot.specs.Bounds.{IsInRange}
@@ -18,6 +18,7 @@ use Rattle.line_types.specs.LineTypes.{LineShape, dashes_of}
 use Rattle.line_types.specs.declared.run.Run.{Run}
 use Rattle.line_types.proofs.Boxes.{dashes_in}
 use Rattle.hpgl_plot.specs.declared.state.State.{State}
+use Rattle.hpgl_plot.specs.Inks.{draws_nothing}
 use Rattle.hpgl_plot.specs.Machine.{with_strokes}
 use Rattle.hpgl_plot.specs.Machine as core
 use Rattle.hpgl_plot.proofs.Fed.{with_more}
@@ -53,13 +54,13 @@ dashes_are_places shape run a b h k n d l =
 
 -- no lines
 pub none_drawn : (w : FullWorld) → drawn_in_type w [] ≡ w
-none_drawn w = elim (cases_Bool (nat_eq w.core.state.pen 0)) [
+none_drawn w = elim (cases_Bool (draws_nothing w.core.state)) [
   | inl t ↦ rw t refl
   | inr t ↦ rw t refl
 ]
 
 inked-append : (s : State) (a b : List Segment) → inked s (a ++ b) ≡ inked s a ++ inked s b
-inked-append s a b = elim (cases_Bool (nat_eq s.pen 0)) [
+inked-append s a b = elim (cases_Bool (draws_nothing s)) [
   | inl t ↦ rw t refl
   | inr t ↦ rw t refl
 ]

@@ -6,6 +6,7 @@ use Rattle.std.proofs.lemmas.Bool.{and_parts, not-true}
 use Rattle.plot_page.specs.Segments.{Segment}
 use Rattle.plot_settings.specs.Meanings.{Edge, Set, Step, Write}
 use Rattle.hpgl_plot.specs.declared.state.State.{State}
+use Rattle.hpgl_plot.specs.Inks.{unscreened}
 use Rattle.hpgl_plot.specs.Strokes.{are_in_range}
 use Rattle.hpgl_plot.specs.Machine as core
 use Rattle.line_types.specs.declared.run.Run.{Run}
@@ -23,6 +24,7 @@ use Rattle.full_plot.specs.Fills.{buffer_filled, counted, edge_span, edges_inked
 use Rattle.full_plot.specs.declared.fills.Ink.{Ink}
 use Rattle.full_plot.specs.declared.fills.Ink.TheVariants.{Width, Line}
 use Rattle.full_plot.specs.Curves.{curve_pen}
+use Rattle.full_plot.specs.Inks.{fills_nothing}
 use Rattle.full_plot.specs.Lines.{drawn_along, drawn_in_type, places_of}
 use Rattle.full_plot.specs.Machine.{FullStep, Core, Restyle, Restart, PointsBy, Letter, Print, Place, Tick, ArcThrough, Curve, PolygonBy, EdgeBuffer, FillBuffer, AnchorBy, Rectangle, WedgeEdge, WedgeFill, EndSheet}
 use Rattle.full_plot.specs.Machine.{anchored, core_step, ends_with, full_step, points_set, rewidened, run}
@@ -79,7 +81,7 @@ module _ {R : FullWorld → FullWorld → Type 0} {May : Type 0} (h : Changes R 
   count w v k = either (R w) (nat_eq (length v.core.kept) (length w.core.kept)) _ _ (h.joined w v (worked 1 v) k (work 1 v)) k
 
   span : (ink : Ink) (w : FullWorld) (p : Span) → May → R w (with_span ink w p)
-  span (Width width) w p m = h.drawn w w.core.state (record (span_stroke w.core.state p) { width = width } ∷ []) w.run m
+  span (Width width) w p m = h.drawn w w.core.state (record (span_stroke (unscreened w.core.state) p) { width = width } ∷ []) w.run m
   span Line w p m = count w _ (in_type w (span_stroke w.core.state p ∷ []) m)
 
   until : (full : Bool) (w v : FullWorld) → R w v → R w (unless full w v)
@@ -114,7 +116,7 @@ module _ {R : FullWorld → FullWorld → Type 0} {May : Type 0} (h : Changes R 
   fill_holds by_winding w m off =
       let v : FullWorld = worked w.buffer.places w in
       let k : R w v = work w.buffer.places w in
-      either (R w) (nat_eq v.core.state.pen 0) _ _ k
+      either (R w) (fills_nothing v.filling.fill.kind v.core.state) _ _ k
       (h.joined w v (filled_by v.filling.fill.kind (rule_by by_winding) v) k
       (kind_holds v.filling.fill.kind (rule_by by_winding) v m (still_off w v k off)))
 

@@ -1,6 +1,7 @@
 pub mod PlotExamples
 mod PenExamples
 mod FillExamples
+mod InkExamples
 pub mod WidthTables
 pub mod Kept
 pub mod DrawnLines

@@ -13,6 +13,7 @@ use Rattle.hpgl_plot.specs.declared.plotter.Stop.TheVariants.{Memory, OffRange}
 use Rattle.hpgl_plot.specs.declared.state.Position.{Position}
 use Rattle.hpgl_plot.specs.declared.state.State.{State}
 use Rattle.hpgl_plot.specs.Bounds.{IsInRange, IsRangeOfPlaces}
+use Rattle.hpgl_plot.proofs.Fed.{within}
 use Rattle.hpgl_plot.proofs.Sound.{as_far}
 use Rattle.plot_page.specs.declared.stroke.TheConstants.{FARTHEST_END}
 use Rattle.hpgl_plot.specs.Paths.{along}
@@ -136,6 +137,25 @@ along_more w v draws a b rest h = elim (cases_Bool (is_in_range w.core.range a))
         (rw (s, t) (ap (λ (u : FullWorld). if are_in_range w.core.range rest then Some u else None) (more_lines w draws a b rest))))
   ]
 ]
+
+-- lines of which the first leaves the range
+pub along_none : (w : FullWorld) (draws : Bool) (a b : Spot) (rest : List Spot) → drawn_along w draws (a ∷ (b ∷ [])) ≡ None
+    → drawn_along w draws (a ∷ (b ∷ rest)) ≡ None
+along_none w draws a b rest h = elim (cases_Bool (is_in_range w.core.range a)) [
+  | inr s ↦ rw s refl
+  | inl s ↦ elim (cases_Bool (is_in_range w.core.range b)) [
+    | inr t ↦ rw (s, t) refl
+    | inl t ↦ absurd (none-some _ (sym (rw (s, t) at h)))
+  ]
+]
+
+-- and no more lines
+no_lines : (w : FullWorld) (draws : Bool) (a : Spot) → drawn_in_type w (lines_along w.core.state draws (a ∷ [])) ≡ w
+no_lines w true a = none_drawn w
+no_lines w false a = none_drawn w
+
+pub along_end : (w : FullWorld) (draws : Bool) (a : Spot) → IsInRange w.core.range a → drawn_along w draws (a ∷ []) ≡ Some w
+along_end w draws a h = rw (within w.core.range a h) (ap (λ (u : FullWorld). Some u) (no_lines w draws a))
 
 -- lines leave the page and the state as they are
 pub record Keeps (w v : FullWorld) : Type 0 where

@@ -11,6 +11,7 @@ use Rattle.polygons.specs.declared.edge.Edge.{Edge}
 use Rattle.polygons.specs.declared.span.Span.{Span}
 use Rattle.polygons.specs.Laws.{AreLoops, IsLoop, IsPath}
 use Rattle.hpgl_plot.specs.declared.state.State.{State}
+use Rattle.hpgl_plot.specs.Inks.{unscreened}
 use Rattle.hpgl_plot.specs.Machine as core
 use Rattle.full_plot.specs.Fills.{edge_span, inked_span, over_spans, span_stroke, unless}
 use Rattle.full_plot.specs.declared.fills.Ink.TheVariants.{Width}
@@ -19,7 +20,7 @@ use Rattle.full_plot.proofs.Aside.{full_spans}
 
 -- a span as a stroke of width 0, and edges as such strokes
 abbrev pub thin_stroke : State → Span → Segment
-thin_stroke s p = record (span_stroke s p) { width = 0 }
+thin_stroke s p = record (span_stroke (unscreened s) p) { width = 0 }
 
 abbrev pub thin_edges : State → List Edge → List Segment
 thin_edges s es = map (thin_stroke s) (map edge_span es)

@@ -20,6 +20,7 @@ use Rattle.polygons.specs.declared.lines.Rule.TheVariants.{OddCounts, Winding}
 use Rattle.polygons.specs.declared.span.Span.{Span}
 use Rattle.hpgl_plot.specs.declared.state.State.{State}
 use Rattle.hpgl_plot.specs.Bounds.{line_in}
+use Rattle.hpgl_plot.specs.Inks.{unscreened}
 use Rattle.hpgl_plot.specs.Strokes.{by_a_pen, pen_width, stroke}
 use Rattle.hpgl_plot.specs.Machine as core
 use Rattle.full_settings.specs.declared.fill_setting.FillKind.{FillKind}
@@ -27,6 +28,7 @@ use Rattle.full_settings.specs.declared.fill_setting.FillKind.TheVariants.{Solid
 use Rattle.full_settings.specs.LineStyles.{diagonal}
 use Rattle.full_plot.specs.declared.fills.Ink.{Ink}
 use Rattle.full_plot.specs.declared.fills.Ink.TheVariants.{Width, Line}
+use Rattle.full_plot.specs.Inks.{fills_nothing}
 use Rattle.full_plot.specs.Lines.{drawn_in_type}
 use Rattle.full_plot.specs.Work.{worked}
 use Rattle.full_plot.specs.Worlds.{FullWorld, page_origin}
@@ -83,9 +85,9 @@ span_stroke s p = stroke (by_a_pen s) p.from p.to
 abbrev pub with_stroke : FullWorld → Segment → FullWorld
 with_stroke w l = record w { core = core.with_strokes w.core w.core.state (l ∷ []) }
 
--- a span of a fill as a stroke of this width
+-- a span of a fill as a stroke of this width, which is not screened
 abbrev pub inked_span : ℕ → FullWorld → Span → FullWorld
-inked_span width w p = with_stroke w (record (span_stroke w.core.state p) { width = width })
+inked_span width w p = with_stroke w (record (span_stroke (unscreened w.core.state) p) { width = width })
 
 -- a line that gives no stroke counts as work
 abbrev pub counted : FullWorld → FullWorld → FullWorld
@@ -147,8 +149,9 @@ filled_by Hatched rule w = hatched rule (pos 0) w
 filled_by CrossHatched rule w = hatched rule (pos 90000) (hatched rule (pos 0) w)
 filled_by Shaded rule w = shaded rule w
 
--- FP: the places in the buffer count as work; pen 0 draws nothing
+-- FP: the places in the buffer count as work
 abbrev pub buffer_filled : Bool → FullWorld → FullWorld
 buffer_filled by_winding w =
     let v = worked w.buffer.places w in
-    if nat_eq v.core.state.pen 0 then v else filled_by v.filling.fill.kind (rule_by by_winding) v
+    if fills_nothing v.filling.fill.kind v.core.state then v else
+    filled_by v.filling.fill.kind (rule_by by_winding) v

@@ -22,7 +22,7 @@ use Rattle.full_notes.specs.Contexts.{Context, read_in, request_in}
 use Rattle.full_notes.specs.Notes.{context_after}
 use Rattle.full_plot.specs.Worlds.{FullWorld}
 use Rattle.full_plot.specs.Machine.{FullStep, Core, Style, Restyle, Restart, Widen, Rewiden, PointsBy, Letter}
-use Rattle.full_plot.specs.Machine.{CharactersBy, Mark}
+use Rattle.full_plot.specs.Machine.{CharactersBy, InkBy, Mark}
 use Rattle.full_plot.specs.Machine.{Keep, Print, Place, TickBy, Tick, ArcThrough, Curve, PolygonBy, EdgeBuffer}
 use Rattle.full_plot.specs.Machine.{FillBuffer, FillBy, AnchorBy, Rectangle, WedgeEdge, WedgeFill, EndSheet, run}
 
@@ -31,6 +31,7 @@ abbrev pub request_steps : FurtherRequest → List ℤ → List FullStep
 request_steps (request.Line s) ns = Style s ∷ []
 request_steps (request.Width s) ns = Widen s ∷ []
 request_steps (request.Letter s) ns = Letter s ∷ []
+request_steps (request.Ink s) ns = InkBy s ∷ []
 request_steps (request.Characters s) ns = CharactersBy s ∷ []
 request_steps (request.Ticks t) ns = TickBy t ∷ []
 request_steps (request.Points p) ns = PointsBy p ∷ []

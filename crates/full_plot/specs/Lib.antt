@@ -3,6 +3,7 @@
 pub mod Worlds
 pub mod Work
 pub mod Dashing
+pub mod Inks
 pub mod Lines
 pub mod Polygons
 pub mod Wedges

@@ -1,10 +1,11 @@
 -- Moves and figures: the lines along their places are drawn in the line type.
-use Rattle.std.specs.Prelude.{Bool, List, [], ◌∷◌, nat_eq, if◌then◌else◌, Option, Some, None}
+use Rattle.std.specs.Prelude.{Bool, List, [], ◌∷◌, if◌then◌else◌, Option, Some, None}
 use Rattle.exact.specs.declared.spot.Spot.{Spot}
 use Rattle.plot_page.specs.Segments.{Segment}
 use Rattle.line_types.specs.LineTypes.{LineShape}
 use Rattle.plot_settings.specs.Meanings.{Step}
 use Rattle.hpgl_plot.specs.declared.state.State.{State}
+use Rattle.hpgl_plot.specs.Inks.{draws_nothing}
 use Rattle.hpgl_plot.specs.Paths.{Path, path}
 use Rattle.hpgl_plot.specs.Strokes.{are_in_range, by_a_pen, joined}
 use Rattle.hpgl_plot.specs.Machine as core
@@ -20,9 +21,9 @@ shape_in w = shape_of w.style w.core.state.frame.points
 abbrev pub lines_along : State → Bool → List Spot → List Segment
 lines_along s draws places = if draws then joined (by_a_pen s) places else []
 
--- pen 0 makes no stroke
+-- a pen that draws nothing makes no stroke
 abbrev pub inked : State → List Segment → List Segment
-inked s strokes = if nat_eq s.pen 0 then [] else strokes
+inked s strokes = if draws_nothing s then [] else strokes
 
 -- these lines, in the line type
 abbrev pub drawn_in_type : FullWorld → List Segment → FullWorld

@@ -15,6 +15,7 @@ use Rattle.hpgl_plot.specs.Machine as core
 pub use Rattle.hpgl_plot.specs.Machine.{Runs}
 use Rattle.full_settings.specs.declared.character_moves.CharacterMove.{CharacterMove}
 use Rattle.full_settings.specs.declared.character_setting.CharacterSetting.{CharacterSetting}
+use Rattle.full_settings.specs.declared.ink_setting.InkSetting.{InkSetting}
 use Rattle.full_settings.specs.declared.letter_setting.LetterSetting.{LetterSetting}
 use Rattle.full_settings.specs.declared.line_setting.LineSetting.{LineSetting}
 use Rattle.full_settings.specs.declared.page_points.RelativePoints.{RelativePoints}
@@ -35,6 +36,7 @@ use Rattle.full_settings.specs.Widths.{widths_by, percents_with, grains_with}
 use Rattle.full_plot.specs.declared.plotter.FullPlotter.{FullPlotter}
 use Rattle.full_plot.specs.Curves.{arc_step, curve_step, if_in_range, curve_pen}
 use Rattle.full_plot.specs.Fills.{buffer_filled}
+use Rattle.full_plot.specs.Inks.{ink_set}
 use Rattle.full_plot.specs.Polygons.{edge_step, edges_drawn, kept_step, lined_step, polygon_set}
 use Rattle.full_plot.specs.Texts.{at_margin, lettered, marked_by, moved_by_characters, ticked, written}
 use Rattle.full_plot.specs.Wedges.{wedge_edged, wedge_kept}
@@ -135,6 +137,10 @@ restyled w =
 abbrev pub restarted : FullWorld → FullWorld
 restarted w = at_margin (restyled w)
 
+-- after a TR or an SV
+abbrev pub inked_by : InkSetting → FullWorld → FullWorld
+inked_by s w = record w { core = record w.core { state = ink_set s w.core.state } }
+
 -- a PB, whose bytes are work
 abbrev pub printed : FullWorld → Option FullWorld
 printed w = then_worked (length w.writing.text) (written w w.writing.text)
@@ -154,7 +160,7 @@ then_filled None = None
 then_filled (Some w) = Some (buffer_filled false w)
 
 -- a step of core; what LT or UL sets; what DF and what IN do besides; what WU, PT or a PW in percent sets; widths by
--- other P1 and P2; P1 and P2 by IR; how letters are written; what CS, CA, SS, SA, SD or AD sets; the symbol of SM; the
+-- other P1 and P2; P1 and P2 by IR; how strokes show; how letters are written; what CS, CA, SS, SA, SD or AD sets; the symbol of SM; the
 -- text of BL, and PB; a CP; what TL sets, and XT or YT; an AT or an RT, and a curve of BZ or BR; a PM; EP, and FP by
 -- winding or not; what FT and AC set; an RA or an RR; an EW, and a WG; the end of a sheet
 pub data FullStep : Type 0 where
@@ -165,6 +171,7 @@ pub data FullStep : Type 0 where
   Widen : WidthSetting → FullStep
   Rewiden : FullStep
   PointsBy : RelativePoints → FullStep
+  InkBy : InkSetting → FullStep
   Letter : LetterSetting → FullStep
   CharactersBy : CharacterSetting → FullStep
   Mark : Option ℕ → FullStep
@@ -203,6 +210,7 @@ full_step w Restart = Some (restarted w)
 full_step w (Widen s) = Some (widened s w)
 full_step w Rewiden = Some (rewidened w)
 full_step w (PointsBy p) = then_rewidened (with_core w (core.step w.core (Set (points_set w p))))
+full_step w (InkBy s) = Some (inked_by s w)
 full_step w (Letter s) = Some (lettered s w)
 full_step w (CharactersBy s) = Some (record w { characters = characters_with s w.characters })
 full_step w (Mark byte) = Some (record w { writing = record w.writing { symbol = byte } })

@@ -58,11 +58,10 @@ fn bold_line(plotter: &mut Plotter, from: Spot, to: Spot) -> Result<(), Stop>
 {
     plotter.begin(from)?;
     plotter.begin(to)?;
-    let pen = plotter.state.pen;
-    if pen == 0 {
+    if plotter.draws_nothing() {
         return Ok(());
     }
-    let width = bold_width(plotter.width_of(pen));
+    let width = bold_width(plotter.width_of(plotter.state.pen));
     let stroke = plotter.line_of_width(width, from, to);
     keep_if_room(plotter, stroke)
 }

@@ -66,7 +66,7 @@ impl FullPlotter {
         ensures { Runs (Some (drawn_in_type (seen self.old) (line.now ∷ []))) (seen self.new) result }
     {
         let measured = measured(line);
-        if self.plotter.state.pen != 0 {
+        if !self.plotter.draws_nothing() {
             keep_dashes(
                 &mut self.plotter,
                 line,

@@ -33,7 +33,7 @@ impl FullPlotter {
     {
         let places = self.buffer.places();
         self.work(places);
-        if self.plotter.state.pen == 0 {
+        if self.fills_nothing() {
             return Ok(());
         }
         self.fill_by_rule(rule_by(by_winding))
@@ -181,7 +181,7 @@ impl FullPlotter {
         self.ends_in_range(from, to)?;
         match ink {
             Ink::Width(width) => {
-                let stroke = self.plotter.line_of_width(width, from, to);
+                let stroke = self.plotter.unscreened_line(width, from, to);
                 self.add_stroke(stroke)
             }
             Ink::Line => {

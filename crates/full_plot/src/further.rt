@@ -60,6 +60,10 @@ impl FullPlotter {
                 self.letter(setting);
                 Ok(())
             }
+            FurtherRequest::Ink(setting) => {
+                self.set_ink(setting);
+                Ok(())
+            }
             FurtherRequest::Characters(setting) => {
                 self.characters.set(setting);
                 Ok(())

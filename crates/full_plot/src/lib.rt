@@ -15,6 +15,7 @@ mod filling;
 mod fills;
 mod further;
 mod ink;
+mod inks;
 mod label_texts;
 pub mod laws;
 mod lines;

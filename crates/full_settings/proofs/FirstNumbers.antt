@@ -75,6 +75,8 @@ same_request of.FillRelative ns = first_two (further_request of.FillRelative) (�
 same_request of.EdgeWedge ns = first_four (further_request of.EdgeWedge) (λ _ _ _ _ _. refl) ns
 same_request of.FillWedge ns = first_four (further_request of.FillWedge) (λ _ _ _ _ _. refl) ns
 same_request of.ChordTolerance ns = first_one (further_request of.ChordTolerance) (λ _ _. refl) ns
+same_request of.Transparency ns = first_one (further_request of.Transparency) (λ _ _. refl) ns
+same_request of.ScreenedVectors ns = first_two (further_request of.ScreenedVectors) (λ _ _ _. refl) ns
 same_request f ns = refl
 
 -- the first of the leading numbers are the first of all

@@ -9,6 +9,7 @@ use Rattle.full_settings.specs.CharacterParameters.{set_choice, font_choice, IsC
 use Rattle.full_settings.specs.declared.character_setting.CharacterSetting.TheVariants.{Select}
 use Rattle.full_settings.specs.ColourRanges.{colour_ranges_of, IsColourRanges}
 use Rattle.full_settings.specs.CurveParameters.{arc_points}
+use Rattle.full_settings.specs.InkParameters.{screen, transparency}
 use Rattle.full_settings.specs.LetterParameters.{relative_size, slant, relative_direction, space, letter_origin, text_path}
 use Rattle.full_settings.specs.LetterParameters.{IsLetterSetting}
 use Rattle.full_settings.specs.LineParameters.{line_type, user_line_type}
@@ -26,7 +27,7 @@ use Rattle.full_settings.specs.declared.requests.FurtherRequest.TheVariants.{Col
 use Rattle.full_settings.specs.declared.requests.FurtherRequest.TheVariants.{EndSheet, Polygon, EdgePolygon}
 use Rattle.full_settings.specs.declared.requests.FurtherRequest.TheVariants.{FillPolygon, Fill, Anchor, Rectangle}
 use Rattle.full_settings.specs.declared.requests.FurtherRequest.TheVariants.{EdgeWedge, FillWedge, Chords, Begin}
-use Rattle.full_settings.specs.declared.requests.FurtherRequest.TheVariants.{Characters, Wrong}
+use Rattle.full_settings.specs.declared.requests.FurtherRequest.TheVariants.{Characters, Ink, Wrong}
 
 -- what numbers ask for, or that they are wrong
 abbrev pub request_by : {A : Type 0} → (A → FurtherRequest) → Option A → FurtherRequest
@@ -72,6 +73,8 @@ further_request of.StandardSet ns = Characters (set_choice Standard ns)
 further_request of.AlternateSet ns = Characters (set_choice Alternate ns)
 further_request of.StandardFont ns = request_by Characters (font_choice Standard ns)
 further_request of.AlternateFont ns = request_by Characters (font_choice Alternate ns)
+further_request of.Transparency ns = request_by Ink (transparency ns)
+further_request of.ScreenedVectors ns = request_by Ink (screen ns)
 further_request of.SelectStandard ns = Characters (Select Standard)
 further_request of.SelectAlternate ns = Characters (Select Alternate)
 further_request of.EndSheet ns = EndSheet

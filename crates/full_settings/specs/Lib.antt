@@ -1,5 +1,5 @@
 -- What a reader must believe: what the numbers of the further instructions ask for, line types, widths of pens, sets of
--- characters and fonts, letters of labels, ticks, P1 and P2 on a page, ranges of colours, curves, polygons and fills.
+-- characters and fonts, letters of labels, ticks, P1 and P2 on a page, ranges of colours, curves, polygons, fills, and how strokes show.
 pub mod LineStyles
 pub mod LineParameters
 pub mod Widths
@@ -16,4 +16,5 @@ pub mod ColourRanges
 pub mod CurveParameters
 pub mod PolygonParameters
 pub mod FillParameters
+pub mod InkParameters
 pub mod FurtherRequests

@@ -1,6 +1,6 @@
 //! What the further instructions of the profile full ask for by their numbers, and what they set: line types,
 //! widths of pens, sets of characters and fonts, letters of labels, ticks, P1 and P2, ranges of colours,
-//! curves, polygons and fills.
+//! curves, polygons, fills, and how strokes show.
 #![tactic(auto)]
 
 mod character_moves;
@@ -14,6 +14,8 @@ mod fill_parameters;
 mod fill_setting;
 mod font;
 mod heading;
+mod ink_parameters;
+mod ink_setting;
 mod letter_parameters;
 mod letter_setting;
 mod letter_size;
@@ -44,6 +46,7 @@ pub use fill_parameters::fill_type_setting;
 pub use fill_setting::{FillKind, FillSetting, FillStyle};
 pub use font::Font;
 pub use heading::Heading;
+pub use ink_setting::InkSetting;
 pub use letter_parameters::direction_setting;
 pub use letter_setting::LetterSetting;
 pub use letter_size::LetterSize;

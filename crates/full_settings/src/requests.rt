@@ -12,6 +12,8 @@ use crate::colour_range::ColourRanges;
 use crate::curve_parameters::arc_points;
 use crate::fill_parameters::fill_type_setting;
 use crate::fill_setting::FillSetting;
+use crate::ink_parameters::{screen_setting, transparency_setting};
+use crate::ink_setting::InkSetting;
 use crate::letter_parameters::{
     origin_setting, path_setting, relative_direction_setting, relative_size_setting, slant_setting,
     space_setting,
@@ -72,6 +74,8 @@ pub enum FurtherRequest {
     EdgeWedge(Wedge),
     /// WG: a filled wedge.
     FillWedge(Wedge),
+    /// TR and SV: how strokes show.
+    Ink(InkSetting),
     /// CT: whether chords have the usual angle, whatever angle is named.
     Chords(bool),
     /// PB: the text that is kept is written.
@@ -188,6 +192,8 @@ fn right_request(
             Selection::Alternate,
             numbers,
         )?)),
+        Further::Transparency => Some(FurtherRequest::Ink(transparency_setting(first)?)),
+        Further::ScreenedVectors => Some(FurtherRequest::Ink(screen_setting(first)?)),
         Further::SelectStandard => Some(FurtherRequest::Characters(CharacterSetting::Select(
             Selection::Standard,
         ))),

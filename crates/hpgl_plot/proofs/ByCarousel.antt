@@ -26,6 +26,7 @@ use Rattle.hpgl_plot.specs.declared.fault.PlotFault.{PlotFault}
 use Rattle.hpgl_plot.specs.declared.fault.PlotFault.TheVariants.{OffRange, TooManyStrokes}
 use Rattle.hpgl_plot.specs.declared.state.State.{State}
 use Rattle.hpgl_plot.specs.Laws.{by_carousel, CarouselChangesOnlyPens}
+use Rattle.hpgl_plot.specs.Inks.{own_colour, screened}
 use Rattle.hpgl_plot.specs.Machine.{after, set_to}
 use Rattle.hpgl_plot.specs.Paths.{Path, path}
 use Rattle.hpgl_plot.specs.States.{state_of}
@@ -166,36 +167,47 @@ history_loaded page c a b [] u h = h
 history_loaded page c a b (t ∷ ts) u h = history_loaded page c (t ∷ a) (t ∷ b) ts u.1 (next_loaded page c a b t u.0 h)
 
 -- strokes
-stroke_loaded : (c : Carousel) (s : State) (a b : Spot) → stroke (loaded c s) a b ≡ by_carousel c (stroke (loaded empty s) a b)
-stroke_loaded c s a b =
-    ap₂ (λ (w : Option ℕ) (k : Option Colour). by_carousel c (record (stroke (loaded c s) a b) {
-      width = unwrap_or w (slice_index s.widths s.pen);
-      colour = unwrap_or k (slice_index_or s.colours s.pen black);
-    })) (sym (empty_width s.pen)) (sym (empty_colour s.pen))
+-- strokes are neither screened nor hidden
+record IsBare (s : State) : Type 0 where
+  screen_is : s.screen ≡ None
+  hides_no : s.hides_white ≡ false
 
-drawn_loaded : (c : Carousel) (s : State) (a b : Spot) → drawn (loaded c s) a b ≡ map (by_carousel c) (drawn (loaded empty s) a b)
-drawn_loaded c s a b = elim (cases_Bool (nat_eq s.pen 0)) [
+stroke_loaded : (c : Carousel) (s : State) (a b : Spot) → IsBare s → stroke (loaded c s) a b ≡ by_carousel c (stroke (loaded empty s) a b)
+stroke_loaded c s a b h =
+    ap (λ (x : Option ℕ). record (stroke (loaded c s) a b) { colour = screened x (own_colour (loaded c s)) }) h.screen_is
+    ∙ own
+    ∙ ap (λ (x : Option ℕ). by_carousel c (record (stroke (loaded empty s) a b) { colour = screened x (own_colour (loaded empty s)) })) (sym h.screen_is)
+  where
+    own : record (stroke (loaded c s) a b) { colour = own_colour (loaded c s) } ≡ by_carousel c (record (stroke (loaded empty s) a b) { colour = own_colour (loaded empty s) })
+    own =
+        ap₂ (λ (w : Option ℕ) (k : Option Colour). by_carousel c (record (stroke (loaded c s) a b) {
+          width = unwrap_or w (slice_index s.widths s.pen);
+          colour = unwrap_or k (slice_index_or s.colours s.pen black);
+        })) (sym (empty_width s.pen)) (sym (empty_colour s.pen))
+
+drawn_loaded : (c : Carousel) (s : State) (a b : Spot) → IsBare s → drawn (loaded c s) a b ≡ map (by_carousel c) (drawn (loaded empty s) a b)
+drawn_loaded c s a b h = elim (cases_Bool (nat_eq s.pen 0)) [
   | inl t ↦ rw t refl
-  | inr t ↦ rw t (ap (λ (k : Segment). k ∷ []) (stroke_loaded c s a b))
+  | inr t ↦ rw (t, h.hides_no) (ap (λ (k : Segment). k ∷ []) (stroke_loaded c s a b h))
 ]
 
-joined_loaded : (c : Carousel) (s : State) (places : List Spot) → joined (loaded c s) places ≡ map (by_carousel c) (joined (loaded empty s) places)
-joined_loaded c s [] = refl
-joined_loaded c s (a ∷ []) = refl
-joined_loaded c s (a ∷ (b ∷ rest)) =
-    ap₂ (λ (x y : List Segment). x ++ y) (drawn_loaded c s a b) (joined_loaded c s (b ∷ rest))
+joined_loaded : (c : Carousel) (s : State) (places : List Spot) → IsBare s → joined (loaded c s) places ≡ map (by_carousel c) (joined (loaded empty s) places)
+joined_loaded c s [] h = refl
+joined_loaded c s (a ∷ []) h = refl
+joined_loaded c s (a ∷ (b ∷ rest)) h =
+    ap₂ (λ (x y : List Segment). x ++ y) (drawn_loaded c s a b h) (joined_loaded c s (b ∷ rest) h)
     ∙ sym (map-append (by_carousel c) (drawn (loaded empty s) a b) (joined (loaded empty s) (b ∷ rest)))
 
-lines_loaded : (c : Carousel) (s : State) (lines : List (List Spot)) → flat_map (joined (loaded c s)) lines ≡ map (by_carousel c) (flat_map (joined (loaded empty s)) lines)
-lines_loaded c s [] = refl
-lines_loaded c s (l ∷ ls) =
-    ap₂ (λ (x y : List Segment). x ++ y) (joined_loaded c s l) (lines_loaded c s ls)
+lines_loaded : (c : Carousel) (s : State) (lines : List (List Spot)) → IsBare s → flat_map (joined (loaded c s)) lines ≡ map (by_carousel c) (flat_map (joined (loaded empty s)) lines)
+lines_loaded c s [] h = refl
+lines_loaded c s (l ∷ ls) h =
+    ap₂ (λ (x y : List Segment). x ++ y) (joined_loaded c s l h) (lines_loaded c s ls h)
     ∙ sym (map-append (by_carousel c) (joined (loaded empty s) l) (flat_map (joined (loaded empty s)) ls))
 
-drawn_if : (c : Carousel) (s : State) (draws : Bool) (lines : List (List Spot))
+drawn_if : (c : Carousel) (s : State) (draws : Bool) (lines : List (List Spot)) → IsBare s
     → (if draws then flat_map (joined (loaded c s)) lines else []) ≡ map (by_carousel c) (if draws then flat_map (joined (loaded empty s)) lines else [])
-drawn_if c s true lines = lines_loaded c s lines
-drawn_if c s false lines = refl
+drawn_if c s true lines h = lines_loaded c s lines h
+drawn_if c s false lines h = refl
 
 step_loaded : (page : Page) (c : Carousel) (a b : List Step) (t : Step) → IsLoaded page c a b
     → path_strokes (state_of page a) (path page (state_of page a) t) ≡ map (by_carousel c) (path_strokes (state_of page b) (path page (state_of page b) t))
@@ -204,7 +216,7 @@ step_loaded page c a b t h =
     let p : Path = path page s t in
     ap (λ (x : State). path_strokes x (path page x t)) h.state_is
     ∙ ap (λ (q : Path). path_strokes (loaded c s) q) (path_loaded page c s t)
-    ∙ drawn_if c s p.draws p.lines
+    ∙ drawn_if c s p.draws p.lines (record { screen_is = refl; hides_no = refl })
     ∙ ap (λ (x : State). map (by_carousel c) (path_strokes x p)) (sym h.none)
 
 steps_loaded : (page : Page) (c : Carousel) (a b ts : List Step) → AreUsual ts → IsLoaded page c a b

@@ -4,6 +4,7 @@ pub mod Frames
 pub mod Paths
 pub mod States
 pub mod Notes
+pub mod Inks
 pub mod Strokes
 pub mod Drawings
 pub mod Laws

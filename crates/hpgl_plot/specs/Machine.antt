@@ -55,6 +55,8 @@ start_state carousel page = record {
   pen = 1;
   is_down = false;
   is_relative = false;
+  screen = None;
+  hides_white = false;
   place = place page (start_frame page) origin;
   coordinates = origin;
 }
@@ -71,6 +73,8 @@ set_to page s Start = start_state s.carousel page
 set_to page s Defaults =
     record (framed page s (record s.frame { scaling = Off })) {
       is_relative = false;
+      screen = None;
+      hides_white = false;
       window = page_window page;
       size = usual_size;
       direction = rotation.None;

@@ -1,7 +1,7 @@
 -- All that holds before a step, and in it the pen's position, by recursion on the steps before it, the newest first,
 -- since a relative move goes on from where the pen is. That a good IP, SC, RO or DF recomputes the pen's coordinates
 -- from its place is our choice; the guide does not say.
-use Rattle.std.specs.Prelude.{pos, List, [], ◌∷◌}
+use Rattle.std.specs.Prelude.{pos, false, List, [], ◌∷◌, None}
 use Rattle.plot_page.specs.declared.page.Page.{Page}
 use Rattle.hpgl_plot.specs.declared.state.Frame.{Frame}
 use Rattle.hpgl_plot.specs.declared.state.Position.{Position}
@@ -56,6 +56,8 @@ state_with page before p = record {
   pen = pen before;
   is_down = is_down before;
   is_relative = is_relative before;
+  screen = None;
+  hides_white = false;
   place = p.place;
   coordinates = p.coordinates;
 }

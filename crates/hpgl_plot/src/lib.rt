@@ -5,6 +5,7 @@ mod axes;
 mod curve;
 mod drawn;
 mod fault;
+mod inks;
 mod item_notes;
 pub mod laws;
 mod note;

@@ -4,7 +4,7 @@ use Rattle.exact.proofs.Tables.{Table}
 use Rattle.hpgl_text.specs.Shapes.{ItemShape, BodyShape, Params, Further, DamagedMoves, DamagedCurves, Label, Terminator, Kept, Symbol, Known, Skipped, Bad, Stray}
 use Rattle.hpgl_text.specs.declared.instruction.Instruction.TheVariants.{Initialize, PenColour, PenDown, PenUp}
 use Rattle.hpgl_text.specs.declared.moves.Moves.TheVariants.{Down, Absolute, Relative}
-use Rattle.hpgl_text.specs.declared.further.Further.TheVariants.{LineType, ColourRange, EndSheet, BeginPlot, PrintBuffer, StandardSet, AlternateSet, StandardFont, AlternateFont, SelectStandard, SelectAlternate}
+use Rattle.hpgl_text.specs.declared.further.Further.TheVariants.{LineType, ColourRange, EndSheet, BeginPlot, PrintBuffer, StandardSet, AlternateSet, StandardFont, AlternateFont, SelectStandard, SelectAlternate, Transparency, ScreenedVectors}
 use Rattle.hpgl_text.specs.declared.profile.Profile.TheVariants.{Core, Full}
 use Rattle.hpgl_text.specs.Mnemonics.{kind_of}
 use Rattle.hpgl_text.specs.Cut.{cut, cut_by}
@@ -32,13 +32,15 @@ instructions : Table full (
     ∷ (codes "PC1;CR0", item 0 (codes "PC") (Params PenColour (pos 1000000 ∷ [])) ∷ item 4 (codes "CR") (Further ColourRange (pos 0 ∷ [])) ∷ [])
     -- sets and fonts
     ∷ (codes "CS33;CASD1,14AD;", item 0 (codes "CS") (Further StandardSet (pos 33000000 ∷ [])) ∷ item 5 (codes "CA") (Further AlternateSet []) ∷ item 7 (codes "SD") (Further StandardFont (pos 1000000 ∷ pos 14000000 ∷ [])) ∷ item 13 (codes "AD") (Further AlternateFont []) ∷ [])
+    -- transparency, and screened strokes
+    ∷ (codes "TR0;SV1,50TR:", item 0 (codes "TR") (Further Transparency (pos 0 ∷ [])) ∷ item 4 (codes "SV") (Further ScreenedVectors (pos 1000000 ∷ pos 50000000 ∷ [])) ∷ item 10 (codes "TR") Bad ∷ [])
     -- the bytes are not read
     ∷ (codes "SS:1;SAPU", item 0 (codes "SS") (Further SelectStandard []) ∷ item 5 (codes "SA") (Further SelectAlternate []) ∷ item 7 (codes "PU") (Params PenUp []) ∷ [])
     ∷ (codes "PG1:2;PU", item 0 (codes "PG") (Further EndSheet []) ∷ item 6 (codes "PU") (Params PenUp []) ∷ [])  -- bytes after PG are not read
     -- other ends of a sheet
     ∷ (codes "AFAHNRFRPB", item 0 (codes "AF") (Further EndSheet []) ∷ item 2 (codes "AH") (Further EndSheet []) ∷ item 4 (codes "NR") (Further EndSheet []) ∷ item 6 (codes "FR") (Further EndSheet []) ∷ item 8 (codes "PB") (Further PrintBuffer []) ∷ [])
     -- known ones without effect, and an unknown one
-    ∷ (codes "PS100,200;NP8;LA1,4,2,4;TR0;FN1,277;VS20;WDPD9,9" ++ (3 ∷ []) ++ codes "OE;ZZ1;", item 0 (codes "PS") Known ∷ item 10 (codes "NP") Known ∷ item 14 (codes "LA") Known ∷ item 24 (codes "TR") Known ∷ item 28 (codes "FN") Known ∷ item 36 (codes "VS") Known ∷ item 41 (codes "WD") Known ∷ item 49 (codes "OE") Known ∷ item 52 (codes "ZZ") Skipped ∷ [])
+    ∷ (codes "PS100,200;NP8;LA1,4,2,4;MC0;FN1,277;VS20;WDPD9,9" ++ (3 ∷ []) ++ codes "OE;ZZ1;", item 0 (codes "PS") Known ∷ item 10 (codes "NP") Known ∷ item 14 (codes "LA") Known ∷ item 24 (codes "MC") Known ∷ item 28 (codes "FN") Known ∷ item 36 (codes "VS") Known ∷ item 41 (codes "WD") Known ∷ item 49 (codes "OE") Known ∷ item 52 (codes "ZZ") Skipped ∷ [])
     ∷ (codes "OE:\";\";OW", item 0 (codes "OE") Known ∷ item 7 (codes "OW") Known ∷ [])  -- a wrong byte is not bad there
     ∷ [])
 instructions = refl

@@ -71,6 +71,10 @@ pub enum Further {
     StandardFont,
     /// AD, Alternate Font Definition.
     AlternateFont,
+    /// TR, Transparency Mode: whether white strokes and areas are not there.
+    Transparency,
+    /// SV, Screened Vectors: strokes in a part of their pen's colour.
+    ScreenedVectors,
     /// SS, Select Standard Font, with its set.
     SelectStandard,
     /// SA, Select Alternate Font, with its set.

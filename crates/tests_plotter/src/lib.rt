@@ -30,6 +30,8 @@ mod drawings;
 #[cfg(test)]
 mod full_cases;
 #[cfg(test)]
+mod inks_set;
+#[cfg(test)]
 mod label_texts_set;
 #[cfg(test)]
 mod labels_set;

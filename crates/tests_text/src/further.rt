@@ -5,7 +5,7 @@ use std::test::Fail;
 
 const NUMBERED: &str = "\
 LT1;UL1;WU1;PT1;SR1;SL1;DR1;DV1;LO1;CP1;ES1;TL1;XT1;YT1;PM1;EP1;FP1;FT1;AC1;RA1;RR1;EW1;WG1;AT1;RT1;\
-BZ1;BR1;CT1;IR1;CR1;CS1;CA1;SD1;AD1;
+BZ1;BR1;CT1;IR1;CR1;CS1;CA1;SD1;AD1;TR1;SV1;
 Further(LineType, [Number { millionths: 1000000 }])
 Further(UserLineType, [Number { millionths: 1000000 }])
 Further(WidthUnit, [Number { millionths: 1000000 }])
@@ -40,6 +40,8 @@ Further(StandardSet, [Number { millionths: 1000000 }])
 Further(AlternateSet, [Number { millionths: 1000000 }])
 Further(StandardFont, [Number { millionths: 1000000 }])
 Further(AlternateFont, [Number { millionths: 1000000 }])
+Further(Transparency, [Number { millionths: 1000000 }])
+Further(ScreenedVectors, [Number { millionths: 1000000 }])
 
 ";
 
@@ -50,7 +52,7 @@ fn numbered(rt: HostRuntime) -> Result<(), Fail> {
 
 // What the core reads is the same in both profiles.
 const CORE_INSTRUCTIONS: &str = "\
-INDFIPSCROIWSPPWPCPUPDPAPREAERCIAAARSIDIPE;LBa\x03DT;PA:!
+INDFIPSCROIWSPPWPCPUPDPAPREAERCIAAARSIDIPE;LBa\x03DT;SP:!
 Params(Initialize, [])
 Params(DefaultValues, [])
 Params(InputPoints, [])
@@ -268,12 +270,12 @@ fn texts_and_symbols(rt: HostRuntime) -> Result<(), Fail> {
 }
 
 const WITHOUT_EFFECT: &str = "\
-PSNPLATRMCPPMTQLSTVSFSASAPECGCGMFNFISBDSIVCMCFCCLMTDRFMGIMKY\
+PSNPLAMCPPMTQLSTVSFSASAPECGCGMFNFISBDSIVCMCFCCLMTDRFMGIMKY\
 DCDPOAOCODOEOFOGOHOIOKOLOOOPOSOTOW
-0 skipped, 47 without effect
+0 skipped, 46 without effect
 
-UCDLSVUFRPZZ
-6 skipped, 0 without effect
+UCDLUFRPZZ
+5 skipped, 0 without effect
 
 ";
 

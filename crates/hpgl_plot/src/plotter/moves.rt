@@ -1,5 +1,5 @@
 //! Moves, and the strokes along a path.
-ghost use Rattle.std.specs.Prelude.{◌≡◌, ◌≤◌, ◌^◌, ◌*ℤ◌, Bool, [], ◌∷◌, nat_abs, true, IfOk, IfErr, Some};
+ghost use Rattle.std.specs.Prelude.{◌≡◌, ◌≤◌, ◌^◌, ◌*ℤ◌, Bool, [], ◌∷◌, nat_abs, true, false, IfOk, IfErr, Some};
 ghost use Rattle.plot_frame.specs.Bounds.{IsNear};
 ghost use Rattle.hpgl_plot.specs.Bounds.{IsInRange, IsPlain};
 ghost use Rattle.hpgl_plot.specs.Frames as frames;
@@ -7,9 +7,11 @@ ghost use Rattle.hpgl_plot.specs.Machine.{seen, step, Runs, kept_with, full_with
 ghost use Rattle.hpgl_plot.specs.Paths as paths;
 ghost use Rattle.hpgl_plot.specs.Paths.{pen_placed};
 ghost use Rattle.plot_page.specs.declared.stroke.TheConstants.{GREATEST_WIDTH};
-ghost use Rattle.hpgl_plot.specs.Strokes.{by_a_pen, drawn, pen_colour, pen_width, stroke};
+ghost use Rattle.hpgl_plot.specs.Inks.{draws_nothing, own_colour, pen_colour, unscreened};
+ghost use Rattle.hpgl_plot.specs.Strokes.{by_a_pen, drawn, pen_width, stroke};
 ghost use Rattle.plot_settings.specs.Meanings.{Touch, Move, Go};
 
+use crate::inks::{is_white, screened};
 use crate::place::{coordinates_at, is_place_in_range, place_on, target_of};
 use crate::plotter::{Plotter, Stop};
 use crate::state::Position;
@@ -205,7 +207,7 @@ impl Plotter {
         self.state.coordinates = end.coordinates;
     }
 
-    // A stroke between two places, unless the pen is 0.
+    // A stroke between two places, unless the pen draws nothing.
     #[inline(always)]
     fn draw(&mut self, a: Spot, b: Spot) -> Result<(), Stop>
         requires a_in { IsInRange self.old.range a }
@@ -221,7 +223,7 @@ impl Plotter {
             ≡ full_with self.old.strokes.items self.old.is_full (drawn self.old.state a b)) }
         ensures memory { IfErr result (λ e. e ≡ Stop.Memory) }
     {
-        if self.state.pen == 0 {
+        if self.draws_nothing() {
             return Ok(());
         }
         if self.strokes.len() >= MOST_STROKES {
@@ -255,15 +257,49 @@ impl Plotter {
         }
     }
 
-    // The colour that a pen has if it is selected.
+    // The colour that strokes of a pen have if it is selected.
     #[inline]
     fn colour_of(&self, pen: u8) -> Colour
         ensures { result ≡ pen_colour (record self.now.state { pen = pen }) }
+    {
+        let own = self.own_colour(pen);
+        match self.state.screen {
+            None => own,
+            Some(level) => screened(level, own),
+        }
+    }
+
+    /// The same if they are not screened, as areas are not.
+    #[inline]
+    pub fn own_colour(&self, pen: u8) -> Colour
+        ensures { result ≡ own_colour (record self.now.state { pen = pen }) }
     {
         match self.state.carousel.colour_of(pen) {
             Some(colour) => colour,
             None => self.state.colours[usize::from(pen)],
         }
+    }
+
+    /// Whether the pen that is selected draws nothing: pen 0, and a white one if TR hides it.
+    #[inline(always)]
+    pub fn draws_nothing(&self) -> bool
+        ensures value { result ≡ draws_nothing self.now.state }
+        ensures pen { result ≡ false → 1 ≤ self.now.state.pen }
+    {
+        if self.state.pen == 0 {
+            return true;
+        }
+        self.state.hides_white && is_white(self.colour_of(self.state.pen))
+    }
+
+    /// The same of an area, which is not screened.
+    pub fn fills_nothing(&self) -> bool
+        ensures { result ≡ draws_nothing (unscreened self.now.state) }
+    {
+        if self.state.pen == 0 {
+            return true;
+        }
+        self.state.hides_white && is_white(self.own_colour(self.state.pen))
     }
 
     /// The stroke that the pen draws between two places, or pen 1 if none is selected.
@@ -274,6 +310,18 @@ impl Plotter {
     {
         let width = self.width_of(self.state.pen.max(1));
         self.line_of_width(width, a, b)
+    }
+
+    /// The same of a width in grains, up to 12,800, in the pen's own colour, whether strokes are screened or not.
+    pub fn unscreened_line(&self, width: u32, a: Spot, b: Spot) -> Stroke
+        requires width { width ≤ GREATEST_WIDTH }
+        requires a_in { IsInRange self.now.range a }
+        requires b_in { IsInRange self.now.range b }
+        ensures { result ≡ record (stroke (by_a_pen (unscreened self.now.state)) a b) { width = width } }
+    {
+        let line = self.line_of_width(width, a, b);
+        let colour = self.own_colour(line.pen);
+        Stroke { colour, ..line }
     }
 
     /// The same of a width in grains, up to 12,800.
