@@ -1,5 +1,5 @@
 -- Requests keep rows in order.
-use Rattle.std.proofs.Common.{◌≡◌, subst, refl, ℕ, ◌+◌, ◌^◌, ◌<◌, ◌≤◌, min, max, Bool, true, false, cond, if◌then◌else◌, nat_le, pos, negsuc, List, [], ◌∷◌, ◌++◌, Option, Some, None, is_some, Result, Ok, Err, arith}
+use Rattle.std.proofs.Common.{◌≡◌, subst, refl, ℕ, ◌+◌, ◌^◌, ◌<◌, ◌≤◌, min, max, Bool, true, false, cond, if◌then◌else◌, nat_le, pos, negsuc, List, [], ◌∷◌, ◌++◌, Option, Some, None, is_some, Result, Ok, Err, IfOk, OnOk, arith}
 use Rattle.std.specs.List.{All}
 use Rattle.std.proofs.lemmas.List.Quantifiers.{all_pairs_push}
 use Rattle.std.proofs.lemmas.List.Elements.{All-nil, All-push, All-weaker}
@@ -270,3 +270,13 @@ rows_stay_in_order_lem = record {
   request = λ request input m n answer e h. of_step (obeyed request input m) n answer (ordered request input m h) e;
   close = λ m n e h. of_close (closed m) n (closed_ordered m h) e;
 }
+
+-- what obeying and closing keep
+pub obeyed_in_order : (request : Request) (input : List ℕ) (m n : Machine) (r : Result Answer Fault)
+    → IfOk r (λ answer. obeyed request input m ≡ Ok (n, answer)) → IsInOrder m → OnOk r (IsInOrder n)
+obeyed_in_order request input m n (Ok answer) e h = rows_stay_in_order_lem.request request input m n answer e h
+obeyed_in_order request input m n (Err fault) e h = tt
+
+pub closed_in_order : {U : Type 0} (m n : Machine) (r : Result U Fault) → OnOk r (closed m ≡ Ok n) → IsInOrder m → OnOk r (IsInOrder n)
+closed_in_order m n (Ok u) e h = rows_stay_in_order_lem.close m n e h
+closed_in_order m n (Err fault) e h = tt

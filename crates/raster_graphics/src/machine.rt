@@ -1,5 +1,6 @@
 //! The machine: what is set, the image for which rows come, and the images that are done.
 ghost use Rattle.std.specs.Prelude.{◌≡◌, ◌≢◌, OnOk, IfErr, Ok, Err};
+ghost use Rattle.raster_graphics.specs.Laws.{IsInOrder};
 ghost use Rattle.raster_graphics.specs.Machines.{start, ended, closed};
 ghost use Rattle.raster_graphics.specs.declared.fault.Fault.TheVariants.{Memory};
 
@@ -42,7 +43,8 @@ pub struct Machine {
 impl Machine {
     /// The machine at the start.
     pub fn new(alloc: Global) -> Self
-        ensures { result ≡ start }
+        ensures start { result ≡ start }
+        ensures ordered { IsInOrder result }
     {
         Machine {
             place: Place { x: 0, y: 0 },
@@ -84,6 +86,15 @@ impl Machine {
     ///
     /// Errors: `TooFar` if that is out of range, `Memory` if memory runs out. The machine is of no use after an error.
     pub fn close(&mut self) -> Result<(), Fault>
+        ensures closed { OnOk result (closed self.old ≡ Ok self.new) }
+        ensures refused { IfErr result (λ fault. fault ≢ Memory → closed self.old ≡ Err fault) }
+        ensures ordered { IsInOrder self.old → OnOk result (IsInOrder self.new) }
+    {
+        self.end_open()
+    }
+
+    // Ends the image that is open, if one is.
+    fn end_open(&mut self) -> Result<(), Fault>
         ensures closed { OnOk result (closed self.old ≡ Ok self.new) }
         ensures refused { IfErr result (λ fault. fault ≢ Memory → closed self.old ≡ Err fault) }
     {

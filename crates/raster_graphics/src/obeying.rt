@@ -2,6 +2,7 @@
 ghost use Rattle.std.specs.Prelude.{◌≡◌, ◌≢◌, OnOk, IfOk, IfErr, Ok, Err, None};
 ghost use Rattle.raster_graphics.specs.Machines.{set, part_of, with_part, part_set, entry_set, compress, place_changed};
 ghost use Rattle.raster_graphics.specs.Machines.{begun, with_unit, reset, obeyed};
+ghost use Rattle.raster_graphics.specs.Laws.{IsInOrder};
 ghost use Rattle.raster_graphics.specs.Places.{density_from};
 ghost use Rattle.raster_graphics.specs.declared.fault.Fault.TheVariants.{Memory};
 
@@ -19,8 +20,17 @@ impl Machine {
     /// Obeys a request; `input` is the data of its command.
     ///
     /// Errors: `TooFar` if a place or a corner of an image is out of range, `TooMuch` if planes have too many bytes, `Memory` if
-    /// memory runs out. The machine is of no use after an error.
+    /// memory runs out. The machine is of no use after an error. The rows of images stay in order.
     pub fn obey(&mut self, alloc: Global, request: Request, input: &[u8]) -> Result<Answer, Fault>
+        ensures obeyed { IfOk result (λ answer. obeyed request input.now self.old ≡ Ok (self.new, answer)) }
+        ensures refused { IfErr result (λ fault. fault ≢ Memory → obeyed request input.now self.old ≡ Err fault) }
+        ensures ordered { IsInOrder self.old → OnOk result (IsInOrder self.new) }
+    {
+        self.carry_out(alloc, request, input)
+    }
+
+    // Carries out a request.
+    fn carry_out(&mut self, alloc: Global, request: Request, input: &[u8]) -> Result<Answer, Fault>
         ensures obeyed { IfOk result (λ answer. obeyed request input.now self.old ≡ Ok (self.new, answer)) }
         ensures refused { IfErr result (λ fault. fault ≢ Memory → obeyed request input.now self.old ≡ Err fault) }
     {

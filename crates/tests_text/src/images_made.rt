@@ -1,4 +1,7 @@
 // Images that escapes of HP RTL make, with the colours of their dots. An independent reader of HP RTL made what is wanted.
+ghost use Rattle.std.specs.Prelude.{OnOk};
+ghost use Rattle.raster_graphics.specs.Laws.{IsInOrder};
+
 use escapes::{Step, first_step};
 use image_colours::Colour;
 use raster_graphics::{Answer, Fault, Image, Machine, Request};
@@ -74,7 +77,7 @@ const REFUSED: &str = "\
 ^*t10R^*p2476800X^*r1A^*b1W<128> = ddd";
 
 // The bytes of a text.
-fn bytes_of(alloc: Global, text: &str) -> Result<Vec<u8>, Fail> {
+pub fn bytes_of(alloc: Global, text: &str) -> Result<Vec<u8>, Fail> {
     let mut bytes = Vec::new(alloc);
     for part in text.split("<") {
         let plain = match part.split_once(">") {
@@ -106,12 +109,14 @@ fn obey_all<'a>(
     machine: &mut Machine,
     text: &'a [u8],
     did: &mut String,
-) -> Result<&'a [u8], Fault> {
+) -> Result<&'a [u8], Fault>
+    ensures { IsInOrder machine.old → OnOk result (IsInOrder machine.new) }
+{
     let mut rest = text;
     let mut step: Option<Step<'a>> = first_step(text);
-    for _ in 0..=text.len() {
+    for _ in 0..text.len() {
         let Some(found) = step else {
-            break;
+            return Ok(rest);
         };
         let request = Request::of(&found.command);
         let answer = machine.obey(alloc, request, found.command.input)?;
@@ -123,7 +128,9 @@ fn obey_all<'a>(
 }
 
 // Has a machine obey all escapes of a text, to its end.
-fn run(alloc: Global, machine: &mut Machine, text: &[u8], did: &mut String) -> Result<(), Fault> {
+pub fn run(alloc: Global, machine: &mut Machine, text: &[u8], did: &mut String) -> Result<(), Fault>
+    ensures { IsInOrder machine.old → OnOk result (IsInOrder machine.new) }
+{
     let mut rest = text;
     for _ in 0..text.len() {
         let [first, more @ ..] = rest else {

@@ -22,6 +22,8 @@ mod further;
 #[cfg(test)]
 mod images_made;
 #[cfg(test)]
+mod images_painted;
+#[cfg(test)]
 mod item_cases;
 #[cfg(test)]
 mod items;
