@@ -3,8 +3,7 @@ ghost use Rattle.std.specs.Prelude.{◌≤◌, nat_abs, All};
 ghost use Rattle.raster_graphics.specs.Laws.{RowsAscend};
 
 use crate::images_made::{bytes_of, run};
-use image_colours::Colour;
-use image_raster::{PlacedImage, Turn, mark_of, paint_images};
+use image_raster::{PlacedImage, Turn, paint_images};
 use plot_page::{Dots, Page, Window};
 use raster_graphics::{Image, Machine, Place};
 use std::alloc::Global;
@@ -98,12 +97,7 @@ fn cell(word: &str, column: u32) -> Result<u32, Fail> {
     if word == "-" {
         return Ok(column);
     }
-    let number = u32::from_str_radix(word, 16)?;
-    Ok(mark_of(Colour {
-        red: (number >> 16 & 255) as u8,
-        green: (number >> 8 & 255) as u8,
-        blue: (number & 255) as u8,
-    }))
+    Ok(0x8000_0000 | u32::from_str_radix(word, 16)?)
 }
 
 // The cells of a row that a text says.
