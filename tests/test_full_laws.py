@@ -59,6 +59,8 @@ def is_core(item):
     """Whether an item is the core's, without a direction along no axis, and a label or a terminator that both draw alike."""
     if item.code == "DI" and item.kind == "numbers":
         return len(item.has) < 2 or 0 in item.has[:2]
+    if item.kind == "damaged":
+        return False
     if item.kind == "label":
         return item.has == item.has.translate(PLAIN)
     if item.kind == "terminator":
@@ -82,6 +84,8 @@ def with_core(plot, item):
     at = item.at
     if item.kind == "label":
         return plot[:at + 2] + item.has.translate(PLAIN) + plot[at + 2 + len(item.has):]
+    if item.kind == "damaged":
+        return plot[:at] + b"SP" + plot[at + 2 :]
     return plot[:at] + (b"PR", b"PD", b"SP")[at % 3] + plot[at + 2 :]
 
 
