@@ -56,15 +56,15 @@ class BadFrom(Exception):
         self.place, self.numbers = place, list(numbers)
 
 
-def items(plot, cut=None):
-    """The items of a plot; cut gives the instruction at a place, and the place after it."""
-    cut, place, terminator = cut or instruction, 0, END_OF_TEXT
+def items(plot):
+    """The items of a plot."""
+    place, terminator = 0, END_OF_TEXT
     while place < len(plot):
         silent = SILENT.match(plot, place)
         if silent:
             place = silent.end()
         elif MNEMONIC.match(plot, place):
-            item, place = cut(plot, place, terminator)
+            item, place = instruction(plot, place, terminator)
             terminator = terminator_after(item, terminator)
             yield item
         else:

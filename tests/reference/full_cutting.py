@@ -35,12 +35,7 @@ class Printed(int):
     """A terminator that is the last byte of its text, too."""
 
 
-def items(plot, has_images=False):
-    """The items of a plot; with escapes of images, if it may have images."""
-    return items_with_images(plot) if has_images else cutting.items(plot, instruction)
-
-
-def items_with_images(plot):
+def items(plot):
     """The items of a plot. An escape is one of the kind `escape`, with its commands, and a form feed between images one of the
     kind `page`."""
     place, terminator, is_rtl = 0, END_OF_TEXT, False

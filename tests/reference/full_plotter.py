@@ -19,12 +19,15 @@ from .full_settings import (
     CROSS_HATCHING, HATCHING, MOST_TICKS, SHADING, SOLID, TICKS_OF_A_GRAIN, WIDEST, FullSettings,
 )
 from .geometry import sign, turned, turned_about, turns, whole_page
-from .images import Rtl, form_of
+from .images import COMMANDS, Rtl, form_of
 from .labels import rows_of
 from .plotter import FARTHEST_END, LONGEST_PLOT, MOST_STROKES, USUAL_WIDTH, Bad, Refused, Stroke, listed, whole
 from .polygons import Buffer
 from .shapes import Area
 
+DATA_OF_IMAGES = [("*b", "V"), ("*b", "W")]
+# Commands whose numbers are judged if images are not drawn.
+IN_RANGES = [("&u", "D"), ("*t", "R"), ("*r", "U"), ("*r", "A"), ("*v", "N"), ("*b", "M")]
 BAD_IN_POLYGONS = "EA ER LB PB CP XT YT EP FP RA RR EW WG".split()
 TICKS_OF_A_UNIT = 16 * TICKS_OF_A_GRAIN
 
@@ -36,12 +39,12 @@ def draw(plot, page, carousel=EMPTY, most=MOST_STROKES, characters=None, has_ima
 
 
 def after(plot, page, carousel=EMPTY, most=MOST_STROKES, characters=None, has_images=False):
-    """The plotter after a plot, which may have images."""
+    """The plotter after a plot, whose images may be drawn."""
     if len(plot) > LONGEST_PLOT:
         raise Refused(messages.text("too-long"))
     plotter = FullPlotter(page, carousel, most)
-    plotter.characters = characters
-    for item in items(plot, has_images):
+    plotter.characters, plotter.draws_images = characters, has_images
+    for item in items(plot):
         plotter.obey(item)
         if plotter.has_too_much():
             raise Refused(messages.text("too-many-strokes", item.at))
@@ -75,6 +78,7 @@ class FullPlotter(FullSettings):
         self.sum = 0  # of strokes, and of what counts as strokes: edges of areas, places that are filled or edged, and texts of PB
         self.labels, self.label = [], None  # the lines of each label that has strokes, and which one is written now
         self.rtl = Rtl(whole_page(page), self.add_image)
+        self.draws_images, self.has_image = False, False
         super().__init__(page, carousel)
 
     def shapes_drawn(self):
@@ -97,8 +101,10 @@ class FullPlotter(FullSettings):
             self.draw_in_part(item)
         elif item.kind == "escape":
             self.escape(item.has)
-        elif item.kind == "page":
+        elif item.kind == "page" and self.draws_images:
             self.end_page()
+        elif item.kind == "page":
+            self.PG([])
         elif item.kind != "known":
             super().obey(item)
 
@@ -118,7 +124,7 @@ class FullPlotter(FullSettings):
     def escape(self, commands):
         """Does what the commands of an escape ask for, with one note at most."""
         self.rtl.at = self.at
-        notes = [self.command(command) for command in commands]
+        notes = [self.command(command) if self.draws_images else self.pass_over(command) for command in commands]
         for kind in ("bad", "skipped"):
             if kind in notes:
                 self.note(self.at, kind, "ESC")
@@ -140,6 +146,16 @@ class FullPlotter(FullSettings):
         elif not form:
             return self.rtl.obey(command)
         return None
+
+    def pass_over(self, command):
+        """What is noted on a command while images are not drawn: the first data of one, and what is so without images."""
+        key = command.group, command.letter
+        if key in DATA_OF_IMAGES:
+            is_first, self.has_image = not self.has_image, True
+            return "skipped" if is_first else None
+        if key == ("&l", "H") and command.rounded() == 0:
+            self.PG([])
+        return Rtl(self.window, None).obey(command) if key in IN_RANGES or key not in COMMANDS else None
 
     def end_page(self):
         """Ends the sheet between images."""

@@ -73,6 +73,13 @@ UTF_8_PARTS = (
 COMMENTS = (
     b'COa "PD9,9" x;', b'CO"a;b" c;', b'CO "PD;', b"CO;", b"CO PD5,5;", b"CO", b"WDPD9,9;\x03", b"WDab;", b"UC1,2;", b"ZZ1;",
 )
+# Escapes of HP RTL and PCL, and what is between them; after each instructions are read.
+ESCAPES = (
+    b"\x1b%0A;PD9,9;\x1b%0B", b"\x1b*r1A\x1b*b2WPD\x1b*rC\x1b%0B", b"\x1b*b3m4V\xff\0\x1b%2W..\x1b%0B", b"\x1b%0A\x0cPD\x1b%-1B",
+    b"\x1b&l0H", b"\x1b&l1o0H", b"\x1b*t5R", b"\x1b*t600R", b"\x1b*c5P", b"\x1b&p3XPD9", b"\x1b(s9W;PA1,1;;;", b"\x1b*b5M",
+    b"\x1b9",
+    b"\x1b*r9a1G\x1b%0B", b"\x1b*b", b"\x1b&u9D", b"\x1bEPD9;\x1b%0B", b"\x1b%-12345X@PJL\n\x1b%0B", b"\x1b*v2N", b"\x1b*v6W;;;;;;",
+)
 WITHOUT_NUMBERS = (b"", b";", b";", b"1,2;", b"!,9;", b'"PD;";', b"-\x1bE")
 
 
@@ -131,6 +138,7 @@ class FullWriter(AreaWriter):
             "kept": self.kept,
             "flat": self.flat_arc,
             "white": lambda: self.pick(b"PC1,255,255,255;", b"PC1,255,255,254;SP1;", b"SP;PC0,9,9,9;", b"TR;PC1,255,255,255;"),
+            "between": lambda: self.pick(*ESCAPES) if self.chance(50) else super(FullWriter, self).piece("between"),
             "sheet": lambda: self.pick(b"PG", b"AF", b"AH", b"NR", b"FR", b"pg") + self.pick(*WITHOUT_NUMBERS),
             "known": lambda: self.pick(*KNOWN),
             "characters": self.chosen_characters,
@@ -238,7 +246,8 @@ class FullWriter(AreaWriter):
     of_AD = of_SD
 
     def of_TR(self):
-        return self.pick([], [0], [MILLION], [MILLION, 5 * MILLION], [499_999], *([[2 * MILLION], [-MILLION]] if self.is_wild else []))
+        wrong = [[2 * MILLION], [-MILLION]] if self.is_wild else []
+        return self.pick([], [0], [MILLION], [MILLION, 5 * MILLION], [499_999], *wrong)
 
     def of_SV(self):
         level = self.pick(0, 100, 50, 12.5, 99.999999, self.upto(100), *((100.000001, -1) if self.is_wild else ()))

@@ -9,8 +9,7 @@ use Rattle.devices.specs.Sources.{SourceState}
 use Rattle.directions.specs.declared.turn.Turn.{Turn}
 use Rattle.directions.specs.declared.turn.Turn.TheVariants.{None, Quarter, Half, ThreeQuarters}
 use Rattle.hpgl_plot.specs.declared.fault.PlotFault.{PlotFault}
-use Rattle.hpgl_text.specs.Cut.{cut_by}
-use Rattle.hpgl_text.specs.declared.profile.Profile.TheVariants as profile
+use Rattle.full_text.specs.Cut.{full_cut}
 use Rattle.labels.specs.Labels.{LabelShape}
 use Rattle.labels.specs.Moves.{moved_label}
 use Rattle.page_fit.specs.Moves.{moved, moved_stroke}
@@ -54,7 +53,7 @@ of_plot encoding carousel page plot (Err e) is = record {
   solid = without_areas [] [] (labels_of encoding carousel page plot);
 }
 of_plot encoding carousel page plot (Ok v) is =
-    let items = cut_by profile.Full plot in
+    let items = full_cut plot in
     record {
       apart = areas_apart encoding carousel page items v is;
       solid = record {

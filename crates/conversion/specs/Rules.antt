@@ -1,6 +1,7 @@
 -- The rules by which plots are drawn, and the picture of a plot by them.
 use Rattle.std.specs.Prelude.{◌≡◌, ℕ, ◌<◌, ◌≤◌, List, [], length, nat_eq, if◌then◌else◌, false, Option, Some, None, ⊤}
-use Rattle.hpgl_text.specs.Cut.{cut, cut_by}
+use Rattle.hpgl_text.specs.Cut.{cut}
+use Rattle.full_text.specs.Cut.{full_cut}
 use Rattle.hpgl_text.specs.declared.program.TheConstants.{LONGEST_PLOT}
 use Rattle.hpgl_text.specs.declared.profile.Profile.TheVariants as profile
 use Rattle.hpgl_plot.specs.declared.fault.PlotFault.{PlotFault}
@@ -64,7 +65,7 @@ core_rules = record {
 
 -- what is noted on a plot in the profile full
 abbrev pub full_notes : List ℕ → List Note
-full_notes plot = full.notes (cut_by profile.Full plot)
+full_notes plot = full.notes (full_cut plot)
 
 -- where sheets end in what is drawn of one sheet, or of all sheets by 0
 abbrev pub ends_of : ℕ → List ℕ → List ℕ

@@ -2,3 +2,4 @@ mod NoteExamples
 pub mod ReadNumbers
 pub mod Noted
 pub mod FewNotes
+mod AskedTogether

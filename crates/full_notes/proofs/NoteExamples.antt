@@ -1,8 +1,8 @@
 -- What is noted on small plots in the profile full, by their text.
-use Rattle.std.proofs.Common.{◌≡◌, ℕ, List, [], ◌∷◌, refl, map}
+use Rattle.std.proofs.Common.{◌≡◌, ℕ, List, [], ◌∷◌, ◌++◌, refl, map}
 use Rattle.std.specs.Prelude.{codes}
-use Rattle.hpgl_text.specs.Cut.{cut_by}
-use Rattle.hpgl_text.specs.declared.profile.Profile.TheVariants.{Full}
+use Rattle.escapes.specs.Escapes.{chain}
+use Rattle.full_text.specs.Cut.{full_cut}
 use Rattle.hpgl_plot.specs.declared.note.Note.{Note}
 use Rattle.hpgl_plot.specs.declared.note.NoteKind.{NoteKind}
 use Rattle.hpgl_plot.specs.declared.note.NoteKind.TheVariants.{Skipped, Bad, Stray, Open}
@@ -13,7 +13,7 @@ abbrev Table : {X Y : Type 0} → (X → Y) → List (X × Y) → Type 0
 Table f rows = map (λ it. f it.0) rows ≡ map (λ it. it.1) rows
 
 abbrev noted : List ℕ → List Note
-noted plot = notes (cut_by Full plot)
+noted plot = notes (full_cut plot)
 
 -- a note on the item at a place
 abbrev note : ℕ → List ℕ → NoteKind → Note
@@ -57,3 +57,23 @@ letters : Table noted (
     ∷ (codes "LBx", note 0 (codes "LB") Open ∷ [])  -- open label
     ∷ [])
 letters = refl
+
+-- ESC
+abbrev esc : List ℕ
+esc = 27 ∷ []
+
+-- a note on an escape
+abbrev escape_note : ℕ → NoteKind → Note
+escape_note at kind = record { at = at; code = 27 ∷ 0 ∷ []; kind = kind }
+
+escapes : Table noted (
+    (esc ++ codes "*c5P" ++ esc ++ codes "*t5R" ++ esc ++ codes "&u9D", escape_note 0 Skipped ∷ escape_note 5 Bad ∷ escape_note 10 Bad ∷ [])  -- a command that is not known, and numbers out of range
+    ∷ (esc ++ codes "*r9a1G" ++ esc ++ codes "*r1g4U", escape_note 0 Bad ∷ escape_note 7 Bad ∷ [])  -- one note an escape, bad before skipped
+    ∷ (esc ++ codes "*b5M" ++ esc ++ codes "*b3m8M", escape_note 0 Skipped ∷ escape_note 5 Skipped ∷ [])  -- compressions that are not known
+    ∷ (esc ++ codes "(s3B" ++ esc ++ codes "9" ++ esc ++ codes "*r1A" ++ esc ++ codes "&l0H" ++ esc ++ codes "E", [])  -- nothing to note
+    ∷ (esc ++ codes "%0A" ++ (12 ∷ []) ++ esc ++ codes "%0B" ++ (12 ∷ []), note 9 (0 ∷ 0 ∷ []) (Stray 12) ∷ [])  -- a form feed of HP RTL, and one between instructions
+    ∷ (esc ++ codes "*b1V." ++ esc ++ codes "%0BIN;" ++ esc ++ codes "*b1v.1W.", escape_note 0 Skipped ∷ [])  -- images are not drawn: the first data
+    ∷ (esc ++ codes "*t5R" ++ esc ++ codes "*b1w.5M" ++ esc ++ codes "*b1W.", escape_note 0 Bad ∷ escape_note 5 Skipped ∷ [])  -- the first data, with another reason
+    ∷ [])
+unfolding chain
+escapes = refl

@@ -1,5 +1,5 @@
 -- What is noted on the items of a plot in the profile full.
-use Rattle.std.specs.Prelude.{ℤ, Bool, true, false, if◌then◌else◌, List, [], ◌∷◌, ◌++◌, Option, Some, None}
+use Rattle.std.specs.Prelude.{ℤ, Bool, true, false, ◌||◌, if◌then◌else◌, List, [], ◌∷◌, ◌++◌, Option, Some, None}
 use Rattle.hpgl_text.specs.Shapes.{ItemShape, BodyShape, Params}
 use Rattle.hpgl_text.specs.Shapes as shape
 use Rattle.hpgl_text.specs.declared.instruction.Instruction.{Instruction}
@@ -23,7 +23,8 @@ use Rattle.full_settings.specs.ColourRanges.{pen_colour_in}
 use Rattle.full_settings.specs.CurveParameters.{are_curves}
 use Rattle.full_settings.specs.LetterParameters.{letter_direction}
 use Rattle.full_settings.specs.WidthParameters.{percent_width}
-use Rattle.full_notes.specs.Contexts.{Context, first_context, read_in, request_in}
+use Rattle.full_notes.specs.Contexts.{Context, first_context, restarted, read_in, request_in}
+use Rattle.full_notes.specs.Escapes.{escape_asks, escape_noted}
 
 -- whether widths are in percent after a WU that asks for this, if they were or were not before
 abbrev pub unit_after : Bool → WidthSetting → Bool
@@ -43,12 +44,12 @@ request_after c (request.Width s) = record c { in_percent = unit_after c.in_perc
 request_after c (request.Colours r) = record c { ranges = r }
 request_after c (request.Polygon p) = record c { in_polygon = is_on_after p c.in_polygon }
 request_after c (request.Chords usual) = record c { usual_chords = usual }
-request_after c request.Begin = first_context
+request_after c request.Begin = restarted c
 request_after c _ = c
 
 -- the context after an instruction of core
 abbrev pub params_after : Context → Instruction → Context
-params_after c Initialize = first_context
+params_after c Initialize = restarted c
 params_after c DefaultValues = record c { in_polygon = false; usual_chords = false }
 params_after c _ = c
 
@@ -56,6 +57,7 @@ params_after c _ = c
 abbrev pub after_body : Context → BodyShape → Context
 after_body c (shape.Further f ns) = request_after c (request_in c f ns)
 after_body c (Params instruction ns) = params_after c instruction
+after_body c (shape.Escape taken) = record c { has_image = c.has_image || (escape_asks taken).has_data }
 after_body c _ = c
 
 abbrev pub context_after : Context → BodyShape → Context
@@ -97,6 +99,7 @@ params_noted c instruction ns = parameters_noted instruction ns
 abbrev pub noted_on : Context → BodyShape → Option NoteKind
 noted_on c (shape.Further f ns) = request_noted (request_in c f ns) ns
 noted_on c (Params instruction ns) = params_noted c instruction ns
+noted_on c (shape.Escape taken) = escape_noted c.has_image (escape_asks taken)
 noted_on c body = core.body_noted body
 
 abbrev pub body_noted : Context → BodyShape → Option NoteKind

@@ -1,14 +1,13 @@
 //! The notes on a plot in the profile full, one at a time.
 ghost use Rattle.std.specs.Prelude.{◌≡◌, ◌≤◌, length};
 ghost use Rattle.std.specs.Iterator.{YieldsFirst, item_count};
-ghost use Rattle.hpgl_text.specs.Cut.{cut_by};
-ghost use Rattle.hpgl_text.specs.declared.profile.Profile.TheVariants.{Full};
+ghost use Rattle.full_text.specs.Cut.{full_cut};
 ghost use Rattle.full_notes.specs.Notes.{notes};
 
 use crate::context::Context;
 use crate::noting::take_note;
+use full_text::FullItems;
 use hpgl_plot::{ItemNotes, Note, NoteSource};
-use hpgl_text::{Items, Profile};
 use std::marker::Model;
 
 /// The notes on a plot that are still to come, in order. Items are read lazily.
@@ -16,7 +15,7 @@ use std::marker::Model;
 pub struct FullNotes<'a> {
     // What is left to tell of the item at hand, and the items after it.
     item: ItemNotes<'a>,
-    items: Items<'a>,
+    items: FullItems<'a>,
     // The context before these.
     context: Context,
 }
@@ -34,12 +33,12 @@ impl<'a> Model for FullNotes<'a> {
 impl<'a> FullNotes<'a> {
     /// The notes on a plot: at most as many as it has bytes.
     pub fn new(plot: &'a [u8]) -> FullNotes<'a>
-        ensures notes { result ≡ notes (cut_by Full plot.now) }
+        ensures notes { result ≡ notes (full_cut plot.now) }
         ensures few { length result ≤ length plot.now }
     {
         FullNotes {
             item: ItemNotes::none(),
-            items: Items::by_profile(Profile::Full, plot),
+            items: FullItems::new(plot),
             context: Context::first(),
         }
     }

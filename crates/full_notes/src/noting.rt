@@ -6,6 +6,7 @@ ghost use Rattle.full_notes.specs.Notes as notes;
 ghost use Rattle.full_notes.specs.Notes.{bad_if, bad_without, body_noted, request_noted, width_noted, params_noted};
 
 use crate::context::Context;
+use crate::escapes_asked::{escape_asks, escape_noted};
 use crate::reading::{arc_read, circle_read, is_misplaced, request_read};
 use full_settings::{
     FillSetting, FurtherRequest, InkSetting, are_curves, colour_in, percent_setting,
@@ -31,6 +32,12 @@ pub fn take_note(item: &Item<'_>, context: &mut Context) -> Option<NoteKind>
         Body::Params(instruction, numbers) => {
             let noted = noted_params(*instruction, numbers, context);
             context.pass_instruction(*instruction);
+            noted
+        }
+        Body::Escape(taken) => {
+            let asks = escape_asks(taken);
+            let noted = escape_noted(asks, context.has_image);
+            context.pass_escape(asks);
             noted
         }
         _ => hpgl_plot::noted_kind(item),

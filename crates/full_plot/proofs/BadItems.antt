@@ -186,6 +186,7 @@ body_nothing c (Params i ns) h t = record { no_steps = params_nothing c i ns h t
 body_nothing c (Further f ns) h t =
     request_nothing c (request_in c f ns) ns h (asked_no_curves c.in_polygon _ (further_no_curves f ns (numbers_read c.usual_chords f ns) t))
 body_nothing c shape.Bad h t = record { no_steps = refl; same = refl }
+body_nothing c (shape.Escape taken) h t = absurd (true≢false t)
 body_nothing c b h t = absurd (cc)
 
 -- as it is read

@@ -7,9 +7,8 @@ use Rattle.areas.specs.Shapes.{NoneGoesOn}
 use Rattle.areas.specs.declared.area.Area.{Area}
 use Rattle.carousel.specs.declared.carousel.Carousel.{Carousel}
 use Rattle.character_sets.specs.declared.encoding.Encoding.{Encoding}
-use Rattle.hpgl_text.specs.Cut.{cut_by}
+use Rattle.full_text.specs.Cut.{full_cut}
 use Rattle.hpgl_text.specs.Shapes.{BodyShape, ItemShape}
-use Rattle.hpgl_text.specs.declared.profile.Profile.TheVariants.{Full}
 use Rattle.hpgl_plot.specs.declared.fault.PlotFault.{PlotFault}
 use Rattle.labels.specs.Labels.{AreBeside, LabelShape, LineShape}
 use Rattle.plot_page.specs.declared.page.Page.{Page}
@@ -87,8 +86,8 @@ kept_beside true areas labels h = h
 kept_beside false areas labels h = All-nil (IsBeside areas)
 
 pub labels_beside : (keeps : Bool) (encoding : Encoding) (carousel : Carousel) (page : Page) (plot : List ℕ) (v : FullWorld)
-    → full_runs (full_at_start_with encoding carousel page) (cut_by Full plot) ≡ Ok v
+    → full_runs (full_at_start_with encoding carousel page) (full_cut plot) ≡ Ok v
     → AreBeside v.areas (labels_kept keeps (labels_of encoding carousel page plot))
 labels_beside keeps encoding carousel page plot v e =
     kept_beside keeps v.areas (labels_of encoding carousel page plot)
-    (by_items (cut_by Full plot) (full_at_start_with encoding carousel page) v (at_start_in_order encoding carousel page) e)
+    (by_items (full_cut plot) (full_at_start_with encoding carousel page) v (at_start_in_order encoding carousel page) e)

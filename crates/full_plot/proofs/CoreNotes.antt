@@ -3,6 +3,7 @@ use Rattle.std.proofs.Common.{◌≡◌, ◌∙◌, ap, sym, refl, true, false, 
 use Rattle.std.proofs.lemmas.Bool.{not-true}
 use Rattle.std.proofs.lemmas.List.Elements.{All-head, All-tail}
 use Rattle.hpgl_text.specs.Shapes.{ItemShape, BodyShape, Params, Further}
+use Rattle.hpgl_text.specs.Shapes as shape
 use Rattle.hpgl_text.specs.declared.instruction.Instruction.{Instruction}
 use Rattle.hpgl_text.specs.declared.instruction.Instruction.TheVariants.{PenColour, Initialize, DefaultValues, Direction}
 use Rattle.plot_settings.specs.Meanings.{sets}
@@ -38,6 +39,7 @@ params_as_in_core i ns h = refl
 body_as_in_core : (b : BodyShape) → is_core_body b ≡ true → body_noted first_context b ≡ core.body_noted b
 body_as_in_core (Params i ns) h = params_as_in_core i ns h
 body_as_in_core (Further f ns) h = absurd (true≢false (sym h))
+body_as_in_core (shape.Escape taken) h = absurd (true≢false (sym h))
 body_as_in_core b h = refl
 
 -- no item of core changes how items are read
@@ -49,6 +51,7 @@ params_in_first i = refl
 pub stays_first : (b : BodyShape) → is_core_body b ≡ true → context_after first_context b ≡ first_context
 stays_first (Params i ns) h = params_in_first i
 stays_first (Further f ns) h = absurd (true≢false (sym h))
+stays_first (shape.Escape taken) h = absurd (true≢false (sym h))
 stays_first b h = refl
 
 pub noted_as_in_core : (items : List ItemShape) → All IsCoreItem items → notes items ≡ core.notes items

@@ -28,6 +28,7 @@ use Rattle.plot_settings.specs.declared.setting.Rotation.TheVariants as rotation
 use Rattle.plot_settings.specs.declared.setting.Setting.{Setting}
 use Rattle.plot_settings.specs.declared.setting.Setting.TheVariants as setting
 use Rattle.hpgl_text.specs.Shapes.{ItemShape, BodyShape, Params, Further, DamagedMoves, DamagedCurves, Label, Coded, Kept, Symbol, Known}
+use Rattle.hpgl_text.specs.Shapes as shape
 use Rattle.hpgl_text.specs.declared.instruction.Instruction.{Instruction}
 use Rattle.hpgl_text.specs.declared.instruction.Instruction.TheVariants.{Initialize, DefaultValues, InputPoints, PenWidth, PenColour, CharacterSize, Direction}
 use Rattle.hpgl_plot.specs.declared.fault.PlotFault.{PlotFault}
@@ -325,6 +326,8 @@ item_run w (DamagedMoves moves ns) e h = absurd (true≢false (sym e))
 item_run w (DamagedCurves relative ns) e h = absurd (true≢false (sym e))
 item_run w (Kept bytes) e h = absurd (true≢false (sym e))
 item_run w (Symbol byte) e h = absurd (true≢false (sym e))
+item_run w (shape.Escape taken) e h = absurd (true≢false (sym e))
+item_run w shape.FormFeed e h = absurd (true≢false (sym e))
 item_run w Known e h = absurd (true≢false (sym e))
 item_run w b e h = record { same = refl; like = h }
 

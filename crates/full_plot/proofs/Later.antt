@@ -14,9 +14,8 @@ use Rattle.plot_page.specs.Segments.{Segment}
 use Rattle.polygons.specs.declared.lines.Rule.{Rule}
 use Rattle.polygons.specs.declared.span.Span.{Span}
 use Rattle.plot_page.specs.declared.page.Page.{Page}
-use Rattle.hpgl_text.specs.Cut.{cut_by}
+use Rattle.full_text.specs.Cut.{full_cut}
 use Rattle.hpgl_text.specs.Shapes.{ItemShape, BodyShape}
-use Rattle.hpgl_text.specs.declared.profile.Profile.TheVariants.{Full}
 use Rattle.hpgl_plot.specs.declared.fault.PlotFault.{PlotFault}
 use Rattle.hpgl_plot.specs.declared.fault.PlotFault.TheVariants as fault
 use Rattle.hpgl_plot.specs.declared.state.State.{State}
@@ -221,7 +220,7 @@ sheets_in_order (Err e) h = are_sheets [] [] (omega arith)
 pub sheets_joined : SheetsJoin
 sheets_joined encoding carousel page plot =
     sheets_in_order (outcome_with encoding carousel page plot)
-    (order_by_items (cut_by Full plot) (full_at_start_with encoding carousel page) (at_start_in_order encoding carousel page))
+    (order_by_items (full_cut plot) (full_at_start_with encoding carousel page) (at_start_in_order encoding carousel page))
 
 -- an item that is carried out makes no stroke fewer
 pub no_fewer : (w v : FullWorld) (b : BodyShape) → taken w b ≡ Some v → length w.core.kept ≤ length v.core.kept

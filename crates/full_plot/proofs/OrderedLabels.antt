@@ -1,9 +1,8 @@
 -- The labels of a plot are in order.
 use Rattle.std.proofs.Common.{◌≡◌, ◌≤◌, ℕ, inl, inr, refl, arith, Bool, true, false, List, [], ◌∷◌, ◌++◌, length, nat_eq, nat_lt, Option, Some, None}
 use Rattle.std.proofs.lemmas.Bool.{cases_Bool}
-use Rattle.hpgl_text.specs.Cut.{cut_by}
+use Rattle.full_text.specs.Cut.{full_cut}
 use Rattle.hpgl_text.specs.Shapes.{BodyShape, ItemShape}
-use Rattle.hpgl_text.specs.declared.profile.Profile.TheVariants.{Full}
 use Rattle.labels.specs.Labels.{AreInOrder, LabelShape, LineShape}
 use Rattle.full_plot.specs.Drawings.{full_at_start_with}
 use Rattle.full_plot.specs.Items.{taken}
@@ -42,7 +41,7 @@ by_items (i ∷ more) at w h =
 
 pub labels_ordered : LabelsAreInOrder
 labels_ordered encoding carousel page plot =
-    by_items (cut_by Full plot) 0 (full_at_start_with encoding carousel page) (omega arith)
+    by_items (full_cut plot) 0 (full_at_start_with encoding carousel page) (omega arith)
 
 -- those that are kept, or none
 pub kept_ordered : (keeps : Bool) (ls : List LabelShape) → AreInOrder 0 ls → AreInOrder 0 (labels_kept keeps ls)

@@ -11,9 +11,8 @@ use Rattle.character_sets.specs.declared.encoding.Encoding.TheVariants.{ByPlot}
 use Rattle.plot_page.specs.declared.page.Page.{Page}
 use Rattle.plot_page.specs.Segments.{Segment}
 use Rattle.plot_page.specs.declared.stroke.TheConstants.{MOST_STROKES}
-use Rattle.hpgl_text.specs.Cut.{cut_by}
+use Rattle.full_text.specs.Cut.{full_cut}
 use Rattle.hpgl_text.specs.Shapes.{ItemShape}
-use Rattle.hpgl_text.specs.declared.profile.Profile.TheVariants.{Full}
 use Rattle.hpgl_plot.specs.declared.fault.PlotFault.{PlotFault}
 use Rattle.hpgl_plot.specs.declared.fault.PlotFault.TheVariants as fault
 use Rattle.hpgl_plot.specs.Machine as core
@@ -67,10 +66,10 @@ full_runs w [] = Ok w
 full_runs w (i ∷ more) = full_ended (taken w i.body) i.at (λ (v : FullWorld). full_runs v more)
 
 abbrev pub outcome : Page → List ℕ → Result FullWorld PlotFault
-outcome page plot = full_runs (full_at_start page) (cut_by Full plot)
+outcome page plot = full_runs (full_at_start page) (full_cut plot)
 
 abbrev pub outcome_with : Encoding → Carousel → Page → List ℕ → Result FullWorld PlotFault
-outcome_with encoding carousel page plot = full_runs (full_at_start_with encoding carousel page) (cut_by Full plot)
+outcome_with encoding carousel page plot = full_runs (full_at_start_with encoding carousel page) (full_cut plot)
 
 -- the refusal of a plot, or None if it is accepted
 abbrev pub refusal_in : Result FullWorld PlotFault → Option PlotFault

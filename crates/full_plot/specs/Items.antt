@@ -19,6 +19,7 @@ use Rattle.full_settings.specs.CurveParameters.{curve_points}
 use Rattle.full_settings.specs.LetterParameters.{letter_direction}
 use Rattle.full_settings.specs.WidthParameters.{percent_width}
 use Rattle.full_notes.specs.Contexts.{Context, read_in, request_in}
+use Rattle.full_notes.specs.Escapes.{escape_asks}
 use Rattle.full_notes.specs.Notes.{context_after}
 use Rattle.full_plot.specs.Worlds.{FullWorld}
 use Rattle.full_plot.specs.Machine.{FullStep, Core, Style, Restyle, Restart, Widen, Rewiden, PointsBy, Letter}
@@ -92,6 +93,7 @@ params_steps c PenWidth ns = width_steps c.in_percent ns
 params_steps c PenColour ns = as_core (sets (pen_colour_in c.ranges ns)).steps
 params_steps c instruction ns = as_core (meaning instruction ns).steps ++ more_steps instruction ns
 
+-- what an item does; of escapes only those that end a sheet do something, since images are not drawn
 abbrev pub full_steps : Context → BodyShape → List FullStep
 full_steps c (shape.Further f ns) = request_steps (request_in c f ns) ns
 full_steps c (Params instruction ns) = params_steps c instruction ns
@@ -99,6 +101,8 @@ full_steps c (DamagedMoves moves ns) = as_core (move_steps moves ns)
 full_steps c (DamagedCurves relative ns) = map (Curve relative) (curve_points ns)
 full_steps c (Kept bytes) = Keep bytes ∷ []
 full_steps c (Symbol byte) = Mark byte ∷ []
+full_steps c (shape.Escape taken) = if (escape_asks taken).ends_sheet then EndSheet ∷ [] else []
+full_steps c shape.FormFeed = EndSheet ∷ []
 full_steps c body = as_core (body_steps body)
 
 -- an item is read by the context before it, and makes its steps in the one after it

@@ -3,11 +3,10 @@ use Rattle.std.specs.Prelude.{ℕ, ◌^◌, nat_lt, nat_eq, if◌then◌else◌,
 use Rattle.std.specs.Prelude.{Option, Some, None}
 use Rattle.carousel.specs.declared.carousel.Carousel.{Carousel}
 use Rattle.character_sets.specs.declared.encoding.Encoding.{Encoding}
-use Rattle.hpgl_text.specs.Cut.{cut_by}
+use Rattle.full_text.specs.Cut.{full_cut}
 use Rattle.hpgl_text.specs.Shapes.{BodyShape, ItemShape, Further, Label}
 use Rattle.hpgl_text.specs.declared.further.Further as further
 use Rattle.hpgl_text.specs.declared.further.Further.TheVariants.{PrintBuffer}
-use Rattle.hpgl_text.specs.declared.profile.Profile.TheVariants.{Full}
 use Rattle.labels.specs.Labels.{LabelShape, LineShape}
 use Rattle.labels.specs.Sheets.{all_counted, labels_between}
 use Rattle.lettering.specs.Lines.{label_lines}
@@ -56,7 +55,7 @@ labels_from w (i ∷ more) = labels_by w i.body (taken w i.body) (λ (v : FullWo
 
 -- those of a plot
 abbrev pub labels_of : Encoding → Carousel → Page → List ℕ → List LabelShape
-labels_of encoding carousel page plot = labels_from (full_at_start_with encoding carousel page) (cut_by Full plot)
+labels_of encoding carousel page plot = labels_from (full_at_start_with encoding carousel page) (full_cut plot)
 
 -- the labels of a sheet, which counts from 1, by the strokes of the sheet; those of all sheets for 0
 abbrev pub labels_of_sheet : List LabelShape → List ℕ → ℕ → ℕ → List LabelShape

@@ -25,6 +25,7 @@ use Rattle.full_settings.specs.Characters.{usual_characters}
 use Rattle.full_plot.specs.Drawings.{full_at_start, full_at_start_with, full_runs, outcome_with, refusal_in}
 use Rattle.full_plot.specs.Drawings.{strokes_in, ends_in, areas_of, sheet_count, sheet_strokes}
 use Rattle.full_plot.specs.Worlds.{FullWorld}
+use Rattle.full_notes.specs.Contexts.{restarted}
 use Rattle.full_notes.specs.Notes.{body_noted, context_after, notes}
 use Rattle.full_plot.specs.Items.{taken}
 use Rattle.full_plot.specs.Labels.{labels_of}
@@ -95,7 +96,7 @@ abbrev pub CoreNotedAsInCore : Type 0
 CoreNotedAsInCore = (items : List ItemShape) → All IsCoreItem items → notes items ≡ noting.notes items
 
 -- what is drawn before a wrong number: moves to the pairs of coordinates before an unpaired one or a wrong byte, and curves
--- before the numbers that make none or such a byte
+-- before the numbers that make none or such a byte; the other commands of an escape are obeyed
 abbrev pub draws_in_part : BodyShape → Bool
 draws_in_part (Params PenUp ns) = true
 draws_in_part (Params PenDown ns) = true
@@ -105,6 +106,7 @@ draws_in_part (Further BezierAbsolute ns) = true
 draws_in_part (Further BezierRelative ns) = true
 draws_in_part (DamagedMoves moves ns) = true
 draws_in_part (DamagedCurves relative ns) = true
+draws_in_part (Escape bytes) = true
 draws_in_part _ = false
 
 -- any other item that is noted as bad does nothing
@@ -117,7 +119,8 @@ abbrev pub PolygonModeDrawsNothing : Type 0
 PolygonModeDrawsNothing = (w v : FullWorld) (i : ItemShape) → w.context.in_polygon ≡ true → taken w i.body ≡ Some v
     → v.core.kept ≡ w.core.kept
 
--- as at the start, but for the page, the carousel, the strokes, the ends of sheets, the areas and the work that counts; and for
+-- as at the start, but for the page, the carousel, the strokes, the ends of sheets, the areas, the work that counts, and whether
+-- data of an image have come; and for
 -- the widths in percent, which have no effect before widths are in percent again
 abbrev pub started_again : FullWorld → FullWorld
 started_again w = record (full_at_start w.core.page) {
@@ -127,6 +130,7 @@ started_again w = record (full_at_start w.core.page) {
   extra = w.extra;
   ends = w.ends;
   areas = w.areas;
+  context = restarted w.context;
 }
 
 -- IN and BP

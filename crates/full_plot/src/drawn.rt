@@ -5,8 +5,7 @@ ghost use Rattle.areas.specs.Laws.{AreRound};
 ghost use Rattle.areas.specs.Shapes.{AreApart, NoneGoesOn, edges_of};
 ghost use Rattle.labels.specs.Labels.{AreBeside, AreInOrder};
 ghost use Rattle.plot_page.specs.declared.stroke.TheConstants.{MOST_STROKES};
-ghost use Rattle.hpgl_text.specs.Cut.{cut_by};
-ghost use Rattle.hpgl_text.specs.declared.profile.Profile.TheVariants.{Full};
+ghost use Rattle.full_text.specs.Cut.{full_cut};
 ghost use Rattle.full_plot.specs.Drawings.{outcome, outcome_with, refusal_in, strokes_in, ends_in, areas_of};
 ghost use Rattle.full_plot.specs.Drawings.{sheet_count, AreAlike, Explains};
 ghost use Rattle.full_plot.specs.Labels.{labels_kept, labels_of};
@@ -17,8 +16,8 @@ use crate::steps::last_end;
 use areas::Area;
 use carousel::Carousel;
 use character_sets::Encoding;
+use full_text::FullItems;
 use hpgl_plot::{PlotFault, count_notes};
-use hpgl_text::{Items, Profile};
 use labels::Label;
 use plot_page::{Page, Stroke};
 use std::alloc::Global;
@@ -63,7 +62,7 @@ pub fn draw_full(alloc: Global, text: &[u8], page: &Page) -> Result<FullDrawn, P
     ensures round { IfOk result
         (λ drawn. All (λ area. AreRound (edges_of drawn.strokes.items area)) drawn.areas.items) }
     ensures ends_beside { IfOk result (λ drawn. All (λ end. NoneGoesOn end drawn.areas.items) drawn.ends.items) }
-    ensures notes { IfOk result (λ drawn. drawn.notes ≡ length (notes.notes (cut_by Full text.now))) }
+    ensures notes { IfOk result (λ drawn. drawn.notes ≡ length (notes.notes (full_cut text.now))) }
     ensures limit { IfOk result (λ drawn. length drawn.strokes.items ≤ MOST_STROKES) }
     ensures refused { IfErr result (λ fault. Explains fault (outcome page.now text.now)) }
 {
@@ -103,7 +102,7 @@ pub fn draw_full_with(
     ensures round { IfOk result
         (λ drawn. All (λ area. AreRound (edges_of drawn.strokes.items area)) drawn.areas.items) }
     ensures ends_beside { IfOk result (λ drawn. All (λ end. NoneGoesOn end drawn.areas.items) drawn.ends.items) }
-    ensures notes { IfOk result (λ drawn. drawn.notes ≡ length (notes.notes (cut_by Full text.now))) }
+    ensures notes { IfOk result (λ drawn. drawn.notes ≡ length (notes.notes (full_cut text.now))) }
     ensures limit { IfOk result (λ drawn. length drawn.strokes.items ≤ MOST_STROKES) }
     ensures labels { IfOk result (λ drawn. drawn.labels.items
         ≡ labels_kept keeps_labels (labels_of encoding carousel.now page.now text.now)) }
@@ -111,7 +110,7 @@ pub fn draw_full_with(
     ensures labels_in_order { IfOk result (λ drawn. AreInOrder 0 drawn.labels.items) }
     ensures refused { IfErr result (λ fault. Explains fault (outcome_with encoding carousel.now page.now text.now)) }
 {
-    let mut items = Items::by_profile(Profile::Full, text);
+    let mut items = FullItems::new(text);
     let mut plotter = FullPlotter::with(alloc, encoding, page, carousel);
     let mut labels = Vec::new(alloc);
     let mut noted: usize = 0;

@@ -5,15 +5,16 @@ ghost use Rattle.plot_settings.specs.Meanings.{asks, meaning, sets, DrawArc, Dra
 ghost use Rattle.plot_settings.specs.Parameters.{arced, circled};
 ghost use Rattle.full_settings.specs.ColourRanges.{pen_colour_in};
 ghost use Rattle.full_notes.specs.Contexts.{params_read};
-ghost use Rattle.full_notes.specs.Notes.{bad_if, bad_without, body_noted, params_noted};
-ghost use Rattle.full_plot.specs.Items.{as_core, more_steps, params_steps, size_by, taken};
+ghost use Rattle.full_notes.specs.Notes.{after_body, bad_if, bad_without, body_noted, noted_on, params_noted};
+ghost use Rattle.hpgl_text.specs.Shapes.{Escape};
+ghost use Rattle.full_plot.specs.Items.{as_core, full_steps, more_steps, params_steps, size_by, taken};
 ghost use Rattle.full_plot.specs.ContextsAfter.{after_params};
 ghost use Rattle.full_plot.specs.Machine.{seen, full_step, run, last_end, Runs, Restyle, Restart, EndSheet};
 
 use crate::filling::Filling;
 use crate::plotter::FullPlotter;
 use crate::writing::Writing;
-use full_notes::{arc_read, bad_without, circle_read, is_misplaced};
+use full_notes::{arc_read, bad_without, circle_read, escape_asks, escape_noted, is_misplaced};
 use full_settings::{Characters, LetterSetting, LineStyle, colour_in, direction_setting};
 use hpgl_plot::{NoteKind, Stop};
 use hpgl_text::{Body, Entries, Entry, Instruction, Item, Numbers, Part};
@@ -57,11 +58,30 @@ impl FullPlotter {
                 Ok(None)
             }
             Body::Terminator(_) | Body::Known => Ok(None),
-            Body::Escape(_) | Body::FormFeed => Ok(None),
+            Body::Escape(taken) => self.take_escape(taken),
+            Body::FormFeed => {
+                self.end_sheet()?;
+                Ok(None)
+            }
             Body::Skipped => Ok(Some(NoteKind::Skipped)),
             Body::Bad => Ok(Some(NoteKind::Bad)),
             Body::Stray(byte) => Ok(Some(NoteKind::Stray(*byte))),
         }
+    }
+
+    // An escape: a sheet may end. Images are not drawn.
+    fn take_escape(&mut self, taken: &[u8]) -> Result<Option<NoteKind>, Stop>
+        ensures runs { Runs (run (record (seen self.old) { context = after_body (seen self.old).context (Escape taken.now) })
+            (full_steps (seen self.old).context (Escape taken.now))) (seen self.new) result }
+        ensures noted { IfOk result (λ noted. noted ≡ noted_on (seen self.old).context (Escape taken.now)) }
+    {
+        let asks = escape_asks(taken);
+        let noted = escape_noted(asks, self.context.has_image);
+        self.context.pass_escape(asks);
+        if asks.ends_sheet {
+            self.end_sheet()?;
+        }
+        Ok(noted)
     }
 
     // Carries out an instruction of core.

@@ -1,5 +1,5 @@
 -- A report is not too long to be counted.
-use Rattle.std.proofs.Common.{◌≡◌, ℕ, ◌+◌, ◌*◌, ◌^◌, ◌<◌, ◌≤◌, ◌/◌, ◌%◌, ◌==◌, List, [], ◌∷◌, ◌++◌, flat_map, length, zero, suc, nat_eq, cond, Bool, true, false, codes, decimal, ℤ, pos, negsuc, arith, refl, length-append, lit≤}
+use Rattle.std.proofs.Common.{◌≡◌, ℕ, ◌+◌, ◌*◌, ◌^◌, ◌<◌, ◌≤◌, ◌/◌, ◌%◌, ◌==◌, List, [], ◌∷◌, ◌++◌, flat_map, length, zero, suc, nat_eq, cond, Bool, true, false, codes, decimal, ℤ, pos, negsuc, arith, refl, length-append, lit≤, get_or, if◌then◌else◌}
 use Rattle.std.specs.Fmt.{digit_glyph, digits, digits_onto, signed_decimal}
 use Rattle.std.specs.List.{join_with_byte, range_with_len}
 use Rattle.plot_page.specs.Segments.{Segment}
@@ -7,9 +7,10 @@ use Rattle.areas.specs.Shapes.{Shape, ShapeList, shapes}
 use Rattle.hpgl_plot.specs.declared.note.Note.{Note}
 use Rattle.hpgl_plot.specs.declared.note.NoteKind.{NoteKind}
 use Rattle.hpgl_plot.specs.declared.note.NoteKind.TheVariants.{Skipped, Bad, Stray, Axis, Open}
+use Rattle.plot_report.specs.declared.lines.TheConstants.{ESCAPE}
 use Rattle.plot_report.specs.declared.report_page.ReportPage.{ReportPage}
 use Rattle.plot_report.specs.declared.summary.StrokeSummary.{StrokeSummary}
-use Rattle.plot_report.specs.Report.{all_edges, area_line, areas_among, areas_line, edges_line, full_report_of, kind_words, line, note_line, page_line, pen_line, pen_lines, pen_shape_lines, report_of, shape_lines, shapes_of, sheets_line, space, strokes_among, strokes_line, strokes_of, summary_line, summary_of}
+use Rattle.plot_report.specs.Report.{all_edges, area_line, areas_among, areas_line, edges_line, full_report_of, kind_words, letters, line, note_line, page_line, pen_line, pen_lines, pen_shape_lines, report_of, shape_lines, shapes_of, sheets_line, space, strokes_among, strokes_line, strokes_of, summary_line, summary_of}
 
 either_few : (b : Bool) (xs ys : List ℕ) (n : ℕ) → length xs ≤ n → length ys ≤ n → length (cond b xs ys) ≤ n
 either_few true xs ys n h k = h
@@ -102,12 +103,19 @@ pens_few : (strokes : List Segment) → length (pen_lines strokes) ≤ 510000
 unfolding pen_lines
 pens_few strokes = range_few (λ (pen : ℕ). pen_line pen (strokes_of pen strokes)) 1 255 (λ k. omega (arith, pen_few k (strokes_of k strokes)))
 
+few_of_two : (b : Bool) (x y : List ℕ) → length x ≤ 3 → length y ≤ 3 → length (if b then x else y) ≤ 3
+few_of_two true x y h k = h
+few_of_two false x y h k = k
+
+letters_few : (code : List ℕ) → length code ≡ 2 → length (letters code) ≤ 3
+letters_few code two = few_of_two (get_or code 0 0 == ESCAPE) (codes "ESC") code (lit≤ tt) (omega (arith, two))
+
 kind_few : (at : ℕ) (kind : NoteKind) (code : List ℕ) → length code ≡ 2 → length (line (codes "note" ∷ decimal at ∷ kind_words kind code)) ≤ 1000
-kind_few at Skipped code two = line_few (codes "note" ∷ decimal at ∷ codes "skipped" ∷ code ∷ []) (lit≤ tt, (decimal_few at, (lit≤ tt, (omega (arith, two), tt)))) (lit≤ tt)
-kind_few at Bad code two = line_few (codes "note" ∷ decimal at ∷ codes "bad" ∷ code ∷ []) (lit≤ tt, (decimal_few at, (lit≤ tt, (omega (arith, two), tt)))) (lit≤ tt)
+kind_few at Skipped code two = line_few (codes "note" ∷ decimal at ∷ codes "skipped" ∷ letters code ∷ []) (lit≤ tt, (decimal_few at, (lit≤ tt, (omega (arith, letters_few code two), tt)))) (lit≤ tt)
+kind_few at Bad code two = line_few (codes "note" ∷ decimal at ∷ codes "bad" ∷ letters code ∷ []) (lit≤ tt, (decimal_few at, (lit≤ tt, (omega (arith, letters_few code two), tt)))) (lit≤ tt)
 kind_few at (Stray byte) code two = line_few (codes "note" ∷ decimal at ∷ codes "stray" ∷ decimal byte ∷ []) (lit≤ tt, (decimal_few at, (lit≤ tt, (decimal_few byte, tt)))) (lit≤ tt)
-kind_few at Axis code two = line_few (codes "note" ∷ decimal at ∷ codes "axis" ∷ code ∷ []) (lit≤ tt, (decimal_few at, (lit≤ tt, (omega (arith, two), tt)))) (lit≤ tt)
-kind_few at Open code two = line_few (codes "note" ∷ decimal at ∷ codes "open" ∷ code ∷ []) (lit≤ tt, (decimal_few at, (lit≤ tt, (omega (arith, two), tt)))) (lit≤ tt)
+kind_few at Axis code two = line_few (codes "note" ∷ decimal at ∷ codes "axis" ∷ letters code ∷ []) (lit≤ tt, (decimal_few at, (lit≤ tt, (omega (arith, letters_few code two), tt)))) (lit≤ tt)
+kind_few at Open code two = line_few (codes "note" ∷ decimal at ∷ codes "open" ∷ letters code ∷ []) (lit≤ tt, (decimal_few at, (lit≤ tt, (omega (arith, letters_few code two), tt)))) (lit≤ tt)
 
 -- a word before those of a note
 pub kind_joined : (word : List ℕ) (kind : NoteKind) (code : List ℕ) → word ++ (space ∷ join_with_byte space (kind_words kind code)) ≡ join_with_byte space (word ∷ kind_words kind code)

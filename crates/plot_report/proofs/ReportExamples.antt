@@ -53,6 +53,7 @@ lines : Agree (
     ∷ (pen_line 1 (stroke 1 224 (pos 0) (pos 448) (pos 341) (pos 448) ∷ stroke 1 224 (pos 341) (pos 448) (pos 683) (pos 448) ∷ stroke 1 224 (pos 683) (pos 448) (pos 1024) (pos 448) ∷ []), codes "pen 1 strokes 3 widest 224 box 0 448 1024 448\n")
     ∷ (pen_line 2 (falling ∷ []), codes "pen 2 strokes 1 widest 16 box -16 -32 320 2000\n")  -- no window cuts the box
     ∷ (note_line (note 0 (codes "ZZ") Skipped), codes "note 0 skipped ZZ\n")  -- skipped
+    ∷ (note_line (note 5 (27 ∷ 0 ∷ []) Bad), codes "note 5 bad ESC\n")  -- an escape
     ∷ (note_line (note 12 (0 ∷ 0 ∷ []) (Stray 33)), codes "note 12 stray 33\n")  -- stray
     ∷ [])
 unfolding digits

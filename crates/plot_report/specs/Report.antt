@@ -1,5 +1,5 @@
 -- The report on a plot: lines of text on the page, the strokes and the areas of each pen, and the notes.
-use Rattle.std.specs.Prelude.{ℕ, max, ℤ, pos, List, [], ◌∷◌, ◌++◌, length, map, filter, flat_map, is_none, is_some, nat_eq, codes, if◌then◌else◌}
+use Rattle.std.specs.Prelude.{ℕ, max, ℤ, pos, List, [], ◌∷◌, ◌++◌, length, map, filter, flat_map, is_none, is_some, nat_eq, ◌==◌, slice_index, codes, if◌then◌else◌}
 use Rattle.std.specs.Prelude.{decimal}
 use Rattle.std.specs.List.{join_with_byte, range_with_len}
 use Rattle.std.specs.Fmt.{signed_decimal}
@@ -7,6 +7,7 @@ use Rattle.std.specs.Int.{int_max, int_min}
 use Rattle.plot_page.specs.declared.page.Page.{Page}
 use Rattle.plot_page.specs.Segments.{Segment}
 use Rattle.areas.specs.Shapes.{Shape, ShapeList, shapes}
+use Rattle.plot_report.specs.declared.lines.TheConstants.{ESCAPE}
 use Rattle.plot_report.specs.declared.report_page.ReportPage.{ReportPage}
 use Rattle.plot_report.specs.declared.summary.StrokeSummary.{StrokeSummary}
 use Rattle.hpgl_plot.specs.declared.note.Note.{Note}
@@ -96,13 +97,17 @@ pen_line pen (s ∷ ss) = summary_line pen (summary_of (s ∷ ss))
 unfoldable pub pen_lines : List Segment → List ℕ
 pen_lines strokes = flat_map (λ pen. pen_line pen (strokes_of pen strokes)) (range_with_len 1 255)
 
--- what is noted: on the instruction with these two letters, or on a stray byte
+-- the letters of an instruction, or those that an escape has in notes
+abbrev pub letters : List ℕ → List ℕ
+letters code = if slice_index code 0 == ESCAPE then codes "ESC" else code
+
+-- what is noted: on the instruction with these two letters, on an escape, or on a stray byte
 abbrev pub kind_words : NoteKind → List ℕ → List (List ℕ)
-kind_words Skipped code = codes "skipped" ∷ code ∷ []
-kind_words Bad code = codes "bad" ∷ code ∷ []
+kind_words Skipped code = codes "skipped" ∷ letters code ∷ []
+kind_words Bad code = codes "bad" ∷ letters code ∷ []
 kind_words (Stray byte) code = codes "stray" ∷ decimal byte ∷ []
-kind_words Axis code = codes "axis" ∷ code ∷ []
-kind_words Open code = codes "open" ∷ code ∷ []
+kind_words Axis code = codes "axis" ∷ letters code ∷ []
+kind_words Open code = codes "open" ∷ letters code ∷ []
 
 -- a note: its place, and what is noted there
 abbrev pub note_line : Note → List ℕ

@@ -3,7 +3,7 @@ ghost use Rattle.std.specs.Prelude.{◌≡◌, ◌++◌, ◌∷◌, [], codes, d
 ghost use Rattle.std.specs.List.{join_with_byte};
 ghost use Rattle.pieces.specs.Texts.{IsSound, Puts};
 ghost use Rattle.plot_report.specs.Report.{space, line, page_line, sheets_line, corner_words, edges_line, summary_line};
-ghost use Rattle.plot_report.specs.Report.{kind_words, note_line};
+ghost use Rattle.plot_report.specs.Report.{kind_words, letters, note_line};
 
 use crate::report_page::ReportPage;
 use crate::summary::StrokeSummary;
@@ -11,6 +11,9 @@ use crate::words::{put_number, put_word};
 use devices::Sink;
 use hpgl_plot::{Note, NoteKind};
 use pieces::Text;
+
+/// The first byte of the code of an escape.
+pub const ESCAPE: u8 = 0x1b;
 
 // `page W H left below`
 pub(crate) fn put_page_line<K: Sink>(text: &mut Text<'_, K>, page: ReportPage)
@@ -125,7 +128,7 @@ fn put_kind<K: Sink>(text: &mut Text<'_, K>, note: &Note)
     ensures puts { Puts K.state text.old text.new (space ∷ join_with_byte space (kind_words note.now.kind note.now.code)) }
     ensures letters { length note.now.code ≡ 2 }
 {
-    let code: &[u8] = &note.code;
+    let code = letters_of(&note.code);
     match note.kind {
         NoteKind::Skipped => put_words(text, b"skipped", code),
         NoteKind::Bad => put_words(text, b"bad", code),
@@ -136,6 +139,13 @@ fn put_kind<K: Sink>(text: &mut Text<'_, K>, note: &Note)
             put_number(text, byte);
         }
     }
+}
+
+// The letters of an instruction, or those that an escape has in notes.
+fn letters_of(code: &[u8; 2]) -> &[u8]
+    ensures { result.now ≡ letters code.now }
+{
+    if code[0] == ESCAPE { b"ESC" } else { code }
 }
 
 // Two words.

@@ -3,7 +3,7 @@ use Rattle.std.specs.Prelude.{ℕ, ◌+◌, ◌/◌, ℤ, pos, int_le, nat_abs, 
 use Rattle.std.specs.Prelude.{if◌then◌else◌}
 use Rattle.std.specs.Option.{option_or}
 use Rattle.std.specs.Str.{bytes_eq}
-use Rattle.hpgl_text.specs.Cut.{cut_by}
+use Rattle.full_text.specs.Cut.{cut_by}
 use Rattle.hpgl_text.specs.Numbers.{ends_numbers, numbers, past_numbers}
 use Rattle.hpgl_text.specs.Shapes.{ItemShape}
 use Rattle.hpgl_text.specs.declared.profile.Profile.{Profile}

@@ -7,7 +7,8 @@ ghost use Rattle.plot_size.specs.Sizes.{longest_side, resized, sides_asked, side
 
 use crate::bytes::after;
 use crate::measures::measures_in;
-use hpgl_text::{Item, Items, Profile};
+use full_text::PlotItems;
+use hpgl_text::{Item, Profile};
 use page_fit::are_sides;
 use plot_page::{LONGEST_ROLL, LONGEST_SIDE, Page};
 
@@ -18,7 +19,7 @@ pub fn page_asked(profile: Profile, page: &Page, plot: &[u8]) -> Option<Page>
     ensures { option_map sides_of result ≡ sides_asked profile page.now plot.now }
 {
     let longest = longest_side(profile);
-    for item in Items::by_profile(profile, plot) {
+    for item in PlotItems::new(profile, plot) {
         if let Some(asked) = page_of_item(longest, page, plot, &item) {
             return Some(asked);
         }

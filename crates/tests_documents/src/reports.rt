@@ -3,6 +3,7 @@ ghost use Rattle.std.specs.Prelude.{◌≡◌, ◌-◌, ◌^◌, ◌<◌, Some};
 
 use areas::{Area, Areas, Shapes};
 use devices::{OverWrite, Sink, SinkFault};
+use full_notes::FullNotes;
 use hpgl_plot::Notes;
 use plot_page::{Colour, Page, Stroke, Window};
 use plot_report::{ReportPage, write_full_report, write_report};
@@ -126,6 +127,16 @@ fn write_full<K: Sink>(
         return Err("too much for a report".into());
     }
     Ok(write_full_report(ReportPage::of(page), sheets, shapes, Notes::new(plot), sink)?)
+}
+
+// Writes the report without strokes on what is noted in a plot in the profile full.
+fn write_noted<K: Sink>(page: &Page, plot: &[u8], sink: &mut K) -> Result<u64, Fail>
+    requires { (K.state sink.old).faults < 2 ^ 64 - 1 }
+{
+    if plot.len() > 10_000 {
+        return Err("too much for a report".into());
+    }
+    Ok(write_report(ReportPage::of(page), &[], FullNotes::new(plot), sink)?)
 }
 
 // Fails unless this is the report with these strokes, and with the notes on a plot.
@@ -555,5 +566,15 @@ fn failing_within_later_pieces(rt: HostRuntime) -> Result<(), Fail> {
     for limit in [32_000, 32_768, 33_000, 65_535, 70_000] {
         breaks_off(&rt, rt.alloc(), &[], &LONG, text.as_bytes(), limit)?;
     }
+    Ok(())
+}
+
+#[test]
+fn notes_on_escapes(rt: HostRuntime) -> Result<(), Fail> {
+    let mut sink = OverWrite::new(Vec::new(rt.alloc()));
+    write_noted(&page()?, b"\x1b*t5R\x1b*c5P\x1b*b\x1b9ZZ;", &mut sink)?;
+    let want = "page 64 64 0 0\nstrokes 0\nnote 0 bad ESC\nnote 5 skipped ESC\nnote 10 stray 27\n\
+                note 11 stray 42\nnote 12 stray 98\nnote 15 skipped ZZ\n";
+    assert_eq!(&rt; sink.into_inner().as_slice(), want.as_bytes());
     Ok(())
 }

@@ -28,6 +28,8 @@ mod damaged_set;
 #[cfg(test)]
 mod drawings;
 #[cfg(test)]
+mod escapes_set;
+#[cfg(test)]
 mod full_cases;
 #[cfg(test)]
 mod inks_set;

@@ -3,7 +3,7 @@ use crate::full_cases::{Asked, has_answers};
 use full_notes::FullNotes;
 use full_plot::draw_full;
 use hpgl_plot::{NoteKind, Page};
-use std::alloc::Global;
+use std::alloc::{AllocError, Global};
 use std::test::Fail;
 
 // The notes on a plot, or "none". Drawing it counts as many.
@@ -12,13 +12,13 @@ pub fn notes_on(alloc: Global, text: &[u8]) -> Result<String, Fail> {
     let mut count: u64 = 0;
     for note in FullNotes::new(text) {
         let (at, [first, second]) = (note.at, note.code);
-        let (first, second) = (first as char, second as char);
+        let letters = letters_of(alloc, first, second)?;
         let line = match note.kind {
-            NoteKind::Skipped => format!(in alloc; "{at} skipped {first}{second};")?,
-            NoteKind::Bad => format!(in alloc; "{at} bad {first}{second};")?,
+            NoteKind::Skipped => format!(in alloc; "{at} skipped {letters};")?,
+            NoteKind::Bad => format!(in alloc; "{at} bad {letters};")?,
             NoteKind::Stray(byte) => format!(in alloc; "{at} stray {byte};")?,
-            NoteKind::Axis => format!(in alloc; "{at} axis {first}{second};")?,
-            NoteKind::Open => format!(in alloc; "{at} open {first}{second};")?,
+            NoteKind::Axis => format!(in alloc; "{at} axis {letters};")?,
+            NoteKind::Open => format!(in alloc; "{at} open {letters};")?,
         };
         list.push_str(line.as_str())?;
         count = count.wrapping_add(1);
@@ -31,6 +31,15 @@ pub fn notes_on(alloc: Global, text: &[u8]) -> Result<String, Fail> {
         list.push_str("none")?;
     }
     Ok(list)
+}
+
+// The letters of an instruction, or of an escape.
+fn letters_of(alloc: Global, first: u8, second: u8) -> Result<String, AllocError> {
+    if first == 0x1b && second == 0 {
+        return format!(in alloc; "ESC");
+    }
+    let (first, second) = (first as char, second as char);
+    format!(in alloc; "{first}{second}")
 }
 
 const NOTES_ON_FURTHER_INSTRUCTIONS: &str = "\

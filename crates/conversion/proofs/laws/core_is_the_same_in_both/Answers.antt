@@ -1,8 +1,9 @@
-use Rattle.std.proofs.Common.{◌≡◌, ℕ, List, [], length, ap, ◌∙◌}
+use Rattle.std.proofs.Common.{◌≡◌, ℕ, List, [], length, ap, ◌∙◌, subst, All}
 use Rattle.std.proofs.Math.Seq.{take-length}
-use Rattle.hpgl_text.specs.Cut.{cut, cut_by}
+use Rattle.hpgl_text.specs.Cut.{cut}
+use Rattle.hpgl_text.specs.Laws.{IsReadAlike}
+use Rattle.full_text.specs.Cut.{full_cut}
 use Rattle.hpgl_text.specs.Shapes.{ItemShape}
-use Rattle.hpgl_text.specs.declared.profile.Profile.TheVariants.{Full}
 use Rattle.areas.specs.declared.area.Area.{Area}
 use Rattle.full_plot.specs.Drawings.{areas_of, areas_of_sheet, full_runs, full_at_start, refusal_in, strokes_in, ends_in, sheet_strokes}
 use Rattle.full_notes.specs.Notes as full
@@ -13,7 +14,8 @@ use Rattle.conversion.proofs.laws.core_is_the_same_in_both.Goals as goal
 
 pub returns : goal.returns
 returns c = λ page plot h.
-    let same : cut_by Full plot ≡ cut plot = c.core_is_in_full.ensures plot h.read_alike in
+    let plain = c.plots_without_escapes.ensures plot h.no_escape in
+    let same : full_cut plot ≡ cut plot = plain ∙ c.core_is_in_full.ensures plot (subst (λ (items : List ItemShape). All IsReadAlike items) plain h.read_alike) in
     let drawn = draws_as_in_core page (cut plot) h.are_core in
     let strokes = strokes_in (full_runs (full_at_start page) (cut plot)) in
     record {

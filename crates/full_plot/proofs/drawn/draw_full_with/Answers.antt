@@ -1,7 +1,6 @@
 use Rattle.std.proofs.Common.{◌+◌, ◌≡◌, ◌∙◌, ap, sym, arith, length, length-append, List, [], ◌∷◌, ◌++◌, Option}
 use Rattle.hpgl_text.specs.Shapes.{ItemShape}
-use Rattle.hpgl_text.specs.Cut.{cut_by}
-use Rattle.hpgl_text.specs.declared.profile.Profile.TheVariants.{Full}
+use Rattle.full_text.specs.Cut.{full_cut}
 use Rattle.hpgl_plot.specs.declared.note.NoteKind.{NoteKind}
 use Rattle.hpgl_plot.specs.Notes.{notes_with}
 use Rattle.full_plot.specs.Drawings.{full_runs}
@@ -64,32 +63,32 @@ items-preserved c =
 -- all items have left the strokes that there are
 pub returns-clause-limit : goal.returns-clause-limit
 returns-clause-limit c =
-    few_strokes c.args.encoding c.args.carousel.now c.args.page.now (cut_by Full c.args.text.now) (seen c.items.plotter)
+    few_strokes c.args.encoding c.args.carousel.now c.args.page.now (full_cut c.args.text.now) (seen c.items.plotter)
     (sym c.items.invariant.same ∙ ap (λ (rest : List ItemShape). full_runs (seen c.items.plotter) rest) c.in_default.ensures.steps.0)
 
 pub returns-clause-apart : goal.returns-clause-apart
 returns-clause-apart c =
-    areas_apart c.args.encoding c.args.carousel.now c.args.page.now (cut_by Full c.args.text.now) (seen c.items.plotter)
+    areas_apart c.args.encoding c.args.carousel.now c.args.page.now (full_cut c.args.text.now) (seen c.items.plotter)
     (sym c.items.invariant.same ∙ ap (λ (rest : List ItemShape). full_runs (seen c.items.plotter) rest) c.in_default.ensures.steps.0)
 
 pub returns-clause-within : goal.returns-clause-within
 returns-clause-within c =
-    areas_within c.args.encoding c.args.carousel.now c.args.page.now (cut_by Full c.args.text.now) (seen c.items.plotter)
+    areas_within c.args.encoding c.args.carousel.now c.args.page.now (full_cut c.args.text.now) (seen c.items.plotter)
     (sym c.items.invariant.same ∙ ap (λ (rest : List ItemShape). full_runs (seen c.items.plotter) rest) c.in_default.ensures.steps.0)
 
 pub returns-clause-alike : goal.returns-clause-alike
 returns-clause-alike c =
-    areas_alike c.args.encoding c.args.carousel.now c.args.page.now (cut_by Full c.args.text.now) (seen c.items.plotter)
+    areas_alike c.args.encoding c.args.carousel.now c.args.page.now (full_cut c.args.text.now) (seen c.items.plotter)
     (sym c.items.invariant.same ∙ ap (λ (rest : List ItemShape). full_runs (seen c.items.plotter) rest) c.in_default.ensures.steps.0)
 
 pub returns-clause-round : goal.returns-clause-round
 returns-clause-round c =
-    areas_round c.args.encoding c.args.carousel.now c.args.page.now (cut_by Full c.args.text.now) (seen c.items.plotter)
+    areas_round c.args.encoding c.args.carousel.now c.args.page.now (full_cut c.args.text.now) (seen c.items.plotter)
     (sym c.items.invariant.same ∙ ap (λ (rest : List ItemShape). full_runs (seen c.items.plotter) rest) c.in_default.ensures.steps.0)
 
 pub returns-clause-ends_beside : goal.returns-clause-ends_beside
 returns-clause-ends_beside c =
-    no_area_at_ends c.args.encoding c.args.carousel.now c.args.page.now (cut_by Full c.args.text.now) (seen c.items.plotter)
+    no_area_at_ends c.args.encoding c.args.carousel.now c.args.page.now (full_cut c.args.text.now) (seen c.items.plotter)
     (sym c.items.invariant.same ∙ ap (λ (rest : List ItemShape). full_runs (seen c.items.plotter) rest) c.in_default.ensures.steps.0)
 
 pub returns-clause-labels_beside : goal.returns-clause-labels_beside

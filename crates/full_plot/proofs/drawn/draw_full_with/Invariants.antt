@@ -1,6 +1,5 @@
 use Rattle.std.proofs.Common.{◌≡◌, ◌+◌, ◌++◌, length}
-use Rattle.hpgl_text.specs.Cut.{cut_by}
-use Rattle.hpgl_text.specs.declared.profile.Profile.TheVariants.{Full}
+use Rattle.full_text.specs.Cut.{full_cut}
 use Rattle.full_plot.specs.Drawings.{outcome_with, full_runs}
 use Rattle.full_plot.specs.Labels.{labels_from, labels_kept, labels_of}
 use Rattle.full_plot.specs.Machine.{seen}
@@ -12,7 +11,7 @@ use Rattle.full_plot.proofs.drawn.draw_full_with.Given as goal
 abbrev pub invariant-items : goal.invariant-items
 invariant-items l = record {
   same : full_runs (seen l.plotter) l.items ≡ outcome_with l.fn.encoding l.carousel l.page l.fn.text;
-  noted : l.noted + length (notes_from (seen l.plotter).context l.items) ≡ length (notes (cut_by Full l.fn.text));
+  noted : l.noted + length (notes_from (seen l.plotter).context l.items) ≡ length (notes (full_cut l.fn.text));
   labelled : l.labels.items ++ labels_kept l.keeps_labels (labels_from (seen l.plotter) l.items)
       ≡ labels_kept l.keeps_labels (labels_of l.fn.encoding l.carousel l.page l.fn.text);
 }
