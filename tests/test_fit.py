@@ -233,7 +233,7 @@ SAID = [
     (b"SP1;PD20000,0;", ["--fit"], "1 line, 0 off the page; 0 notes"),
     (b"SP2;PD100,100;", ["--pens=1"], "nothing is drawn: 0 lines, 0 off the page; 0 notes"),
     (b"", [], "nothing is drawn: 0 lines, 0 off the page; 0 notes"),
-    (b"UC1,1;", ["--profile=full"], "nothing is drawn: 0 lines, 0 off the page; 1 note"),
+    (b"UF1,1;", ["--profile=full"], "nothing is drawn: 0 lines, 0 off the page; 1 note"),
     # A line of 0.35 mm is 14 units wide: it reaches the page from 7 units beside it, and not from 8.
     (b"SP1;PU-7,0;PD-7,100;", [], "1 line, 0 off the page, 1 cut at its edge; 0 notes"),
     (b"SP1;PU-8,0;PD-8,100;", [], "nothing is drawn: 1 line, 1 off the page; 0 notes"),

@@ -209,6 +209,6 @@ def test_examples_of_images(name, keys):
 def test_number_of_examples():
     """Each row has a name of its own, a plot, and something that it says of it."""
     names = [name for name, _ in rows()]
-    assert len(names) == len(set(names)) == 210
+    assert len(names) == len(set(names)) == 232
     says = {"draws", "strokes", "area", "pixels", "refused"}
     assert_nothing(f"{name} says nothing" for name, keys in rows() if len(keys["plot"]) != 1 or not says & set(keys))

@@ -15,7 +15,7 @@ from .images import is_rtl_after
 # Instructions whose numbers are not read.
 WITHOUT_NUMBERS = "PG AF AH NR FR BP PB SS SA".split()
 # Further instructions with numbers: these, and those that set something, which are methods of FullSettings.
-FURTHER_WITH_NUMBERS = "CP XT YT PM EP FP RA RR EW WG AT RT BZ BR".split() + [
+FURTHER_WITH_NUMBERS = "CP XT YT PM EP FP RA RR EW WG AT RT BZ BR UC".split() + [
     name for name in vars(FullSettings)
     if re.fullmatch("[A-Z]{2}", name) and name not in (*cutting.WITH_NUMBERS, *WITHOUT_NUMBERS, "BL", "SM")
 ]

@@ -108,6 +108,13 @@ class Style(NamedTuple):
         dx = times(x + 3 * i, width, 12) + times(self.slant, 3 * j * height, 18)
         return self.swung(dx, times(y + 3 * j, height, 18))
 
+    def free_point(self, i, j):
+        """A point of a label of one character, in fourths of the width and eighths of the height, which may be fractions."""
+        x, y = self.beginning(0, 0, 1)
+        width, height = self.size
+        dx = times(x + 3 * i, width, 12) + times(self.slant * j, height, 8)
+        return self.swung(dx, times(y + Fraction(9, 4) * j, height, 18))
+
     def end(self, signs):
         """Where the pen is after a label, as an offset."""
         column = 0

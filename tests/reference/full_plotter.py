@@ -28,7 +28,9 @@ from .shapes import Area
 DATA_OF_IMAGES = [("*b", "V"), ("*b", "W")]
 # Commands whose numbers are judged if images are not drawn.
 IN_RANGES = [("&u", "D"), ("*t", "R"), ("*r", "U"), ("*r", "A"), ("*v", "N"), ("*b", "M")]
-BAD_IN_POLYGONS = "EA ER LB PB CP XT YT EP FP RA RR EW WG".split()
+BAD_IN_POLYGONS = "EA ER LB PB CP UC XT YT EP FP RA RR EW WG".split()
+# The number that puts the pen of a character down, or, below 0, up; and how far a point of one may be, in millionths.
+PEN_OF_CHARACTERS, FARTHEST_POINT = 99 * MILLION, 2**53
 TICKS_OF_A_UNIT = 16 * TICKS_OF_A_GRAIN
 
 
@@ -243,9 +245,12 @@ class FullPlotter(FullSettings):
     # Labels and ticks
 
     def write_from_the_pen(self, style, signs):
-        width = min(WIDEST, 2 * self.width()) if self.fonts[self.selected].is_bold else self.width()
+        width = self.width_of_letters()
         for ends in style.strokes(signs):
             self.ink(*(self.in_range(moved(self.place, end)) for end in ends), width)
+
+    def width_of_letters(self):
+        return min(WIDEST, 2 * self.width()) if self.fonts[self.selected].is_bold else self.width()
 
     def write(self, text):
         """LB: the strokes of each character; the pen ends as the origin says."""
@@ -280,6 +285,31 @@ class FullPlotter(FullSettings):
         else:
             self.margin = self.place = self.in_range(moved(self.margin, style.offset(0, 1)))
         self.recompute()
+
+    def UC(self, numbers):
+        """A character by the moves of its own pen; then the pen is on as after a letter. Without numbers nothing."""
+        if not numbers:
+            return None
+        style, is_down, point, rest = self.style(), False, (0, 0), list(numbers)
+        while rest:
+            first = rest.pop(0)
+            if abs(first) >= PEN_OF_CHARACTERS:
+                is_down = first > 0
+            elif rest:
+                before, point = point, (point[0] + first, point[1] + rest.pop(0))
+                self.move_in_a_character(style, before, point, is_down)
+            else:
+                rest = None
+        self.place = self.in_range(moved(self.place, style.end([ord("A")])))
+        self.recompute()
+        return "bad" if rest is None else None
+
+    def move_in_a_character(self, style, before, point, is_down):
+        if max(map(abs, point)) > FARTHEST_POINT:
+            raise Refused(messages.text("off-range", self.at))
+        ends = [self.in_range(moved(self.place, style.free_point(*(Fraction(n, MILLION) for n in at)))) for at in (before, point)]
+        if is_down:
+            self.ink(*ends, self.width_of_letters())
 
     def XT(self, _):
         """A tick along y."""

@@ -32,6 +32,7 @@ THEMES = [
         "restored restored restored PD LB RR",
         "kept kept kept kept PD LB",
         f"LB LB LB SR SI {LETTERS} LO LO DV CP CP RO mirrored IP DF PU",
+        f"UC UC UC UC SR SI SD {LETTERS} LO LO DV CP LT RO mirrored IP PU PM SP",
         "lines lines LB BL PB LO DV ES CP CP SR DT SC PD",
         "SM SM PU PD PA PR PE LB LO DV SI",
         "TL XT YT RO mirrored IP PU SP",
@@ -49,7 +50,7 @@ THEMES = [
         "characters characters characters text text CS CA SD AD SS SA DT PD",
         "text text SD AD SI SR CP LO ES DV DI PD SM SL PW PT characters",
         "CS CA SA SS text BL PB DT LB DF IN BP SM PD IP mirrored",
-        f"LT UL WU PW PT PC CR IR SR {LETTERS} LO DV CP BL PB SM TL XT YT PM EP FP FT AC RR EW WG AT RT BZ BR CT sheet",
+        f"LT UL WU PW PT PC CR IR SR {LETTERS} LO DV CP BL PB SM TL XT YT PM EP FP FT AC RR EW WG AT RT BZ BR CT UC sheet",
         "LT PD LB FP PM EP FT RR SM IN DF IP SC RO IW SP PU PD PA PR PE EA ER CI AA AR LB DT SI DI",
         "PD PD PR AR ER CI IW LB units units bad",
     )
@@ -71,7 +72,7 @@ UTF_8_PARTS = (
     b"\xe2\x82", b"\xf4\x90\x80\x80", b"\x80", b"\xf0\x9f\x98",
 )
 COMMENTS = (
-    b'COa "PD9,9" x;', b'CO"a;b" c;', b'CO "PD;', b"CO;", b"CO PD5,5;", b"CO", b"WDPD9,9;\x03", b"WDab;", b"UC1,2;", b"ZZ1;",
+    b'COa "PD9,9" x;', b'CO"a;b" c;', b'CO "PD;', b"CO;", b"CO PD5,5;", b"CO", b"WDPD9,9;\x03", b"WDab;", b"UF1,2;", b"ZZ1;",
 )
 # Escapes of HP RTL and PCL, and what is between them; after each instructions are read.
 ESCAPES = (
@@ -481,6 +482,17 @@ class FullWriter(AreaWriter):
 
     def of_BR(self):
         return sum((self.step() for _ in range(3 * self.pick(1, 1, 1, 2))), []) + self.number_too_many()
+
+    def of_UC(self):
+        """Moves of a few units, with the pen down for most, and now and then a number alone, or numbers of any size."""
+        numbers = []
+        for _ in range(self.pick(0, 1, 2, 3, 5, 9)):
+            if self.chance(50):
+                numbers.append(self.pick(99, 99, 99, -99, 100, -8_388_607, 98.999999, -98.999999))
+            numbers += [self.pick(0, 1, -1, 2, 4, -4, 0.5, -0.333333), self.pick(0, 2, -2, 4, 8, -8, 1.25, 99, -99)]
+        if self.chance(5):
+            numbers.append(self.pick(1, 99, -99, 8_388_607))
+        return [round(number * MILLION) for number in numbers]
 
     def number_too_many(self):
         return [MILLION] * self.pick(1, 2, 5) if self.is_wild and self.chance(20) else []

@@ -33,8 +33,10 @@ instructions : Table noted (
     ∷ (codes "WU;WU0,5;WU1;PW;PW100,255;PT;PT.5;PW0,1,2;", [])  -- good widths
     ∷ (codes "PG;AF;AH1;NR;FR;BP1,2;", [])  -- the ends of sheets, and BP with any numbers
     ∷ (codes "PS1;COa x;NP8;", [])  -- without effect
-    ∷ (codes "UC;SM*;BLx;", note 0 (codes "UC") Skipped ∷ [])  -- not drawn
+    ∷ (codes "UF;SM*;BLx;", note 0 (codes "UF") Skipped ∷ [])  -- not drawn
     ∷ (codes "FT21;FT3,-1;FT10,101;FT1;", note 0 (codes "FT") Skipped ∷ note 5 (codes "FT") Bad ∷ note 12 (codes "FT") Bad ∷ [])  -- patterns of FT
+    -- a number of UC alone, and UC in polygon mode
+    ∷ (codes "UC;UC1,2,99,3;UC99;PM0;UC;PM2;", note 3 (codes "UC") Bad ∷ note 23 (codes "UC") Bad ∷ [])
     -- polygon mode, and chords that are not read
     ∷ (codes "PM2;PM0;EA1,1;PM1;FP;PM2;EP;PM1;", note 0 (codes "PM") Bad ∷ note 8 (codes "EA") Bad ∷ note 18 (codes "FP") Bad ∷ note 28 (codes "PM") Bad ∷ [])
     ∷ (codes "CI1,0;CT1;CI1,0;AT1,2,3,4,0;CT;EW1,2,3,0;", note 0 (codes "CI") Bad ∷ note 31 (codes "EW") Bad ∷ [])  -- chords

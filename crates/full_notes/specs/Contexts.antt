@@ -36,6 +36,7 @@ restarted c = record first_context { has_image = c.has_image }
 abbrev pub is_bad_further : further.Further → Bool
 is_bad_further of.PrintBuffer = true
 is_bad_further of.CharacterPlot = true
+is_bad_further of.UserCharacter = true
 is_bad_further of.XTick = true
 is_bad_further of.YTick = true
 is_bad_further of.EdgePolygon = true

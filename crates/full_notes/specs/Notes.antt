@@ -1,5 +1,5 @@
 -- What is noted on the items of a plot in the profile full.
-use Rattle.std.specs.Prelude.{ℤ, Bool, true, false, ◌||◌, if◌then◌else◌, List, [], ◌∷◌, ◌++◌, Option, Some, None}
+use Rattle.std.specs.Prelude.{ℤ, Bool, true, false, not, ◌||◌, if◌then◌else◌, List, [], ◌∷◌, ◌++◌, Option, Some, None}
 use Rattle.hpgl_text.specs.Shapes.{ItemShape, BodyShape, Params}
 use Rattle.hpgl_text.specs.Shapes as shape
 use Rattle.hpgl_text.specs.declared.instruction.Instruction.{Instruction}
@@ -22,6 +22,7 @@ use Rattle.full_settings.specs.CharacterParameters.{names_unknown_set}
 use Rattle.full_settings.specs.ColourRanges.{pen_colour_in}
 use Rattle.full_settings.specs.CurveParameters.{are_curves}
 use Rattle.full_settings.specs.LetterParameters.{letter_direction}
+use Rattle.full_settings.specs.UserMoves.{are_user_moves}
 use Rattle.full_settings.specs.WidthParameters.{percent_width}
 use Rattle.full_notes.specs.Contexts.{Context, first_context, restarted, read_in, request_in}
 use Rattle.full_notes.specs.Escapes.{escape_asks, escape_noted}
@@ -73,13 +74,15 @@ abbrev pub bad_if : Bool → Option NoteKind
 bad_if is_wrong = if is_wrong then Some Bad else None
 
 -- what is noted on a further instruction: that its numbers are wrong, or that it has no effect, as patterns of FT and SV
--- and sets that are not known have not; numbers after those of whole curves draw nothing, and are wrong
+-- and sets that are not known have not; numbers after those of whole curves draw nothing, and are wrong, and so is a number
+-- of UC that is left alone
 abbrev pub request_noted : FurtherRequest → List ℤ → Option NoteKind
 request_noted request.Wrong ns = Some Bad
 request_noted (request.Fill Pattern) ns = Some Skipped
 request_noted (request.Ink OtherScreen) ns = Some Skipped
 request_noted (request.Characters s) ns = if names_unknown_set s then Some Skipped else None
 request_noted (request.Curves relative) ns = if are_curves ns then None else Some Bad
+request_noted request.UserCharacter ns = bad_if (not (are_user_moves ns))
 request_noted _ ns = None
 
 -- what is noted on a PW

@@ -9,7 +9,7 @@ use crate::context::Context;
 use crate::escapes_asked::{escape_asks, escape_noted};
 use crate::reading::{arc_read, circle_read, is_misplaced, request_read};
 use full_settings::{
-    FillSetting, FurtherRequest, InkSetting, are_curves, colour_in, percent_setting,
+    FillSetting, FurtherRequest, InkSetting, are_curves, are_user_moves, colour_in, percent_setting,
 };
 use hpgl_plot::NoteKind;
 use hpgl_text::{Body, Instruction, Item, Numbers};
@@ -56,6 +56,7 @@ pub fn noted_request(request: &FurtherRequest, numbers: &Numbers<'_>) -> Option<
             Some(NoteKind::Skipped)
         }
         FurtherRequest::Curves(_) if !are_curves(numbers) => Some(NoteKind::Bad),
+        FurtherRequest::UserCharacter if !are_user_moves(numbers) => Some(NoteKind::Bad),
         _ => None,
     }
 }

@@ -45,7 +45,7 @@ fn is_bad_further(further: Further) -> bool
     ensures { result ≡ contexts.is_bad_further further }
 {
     match further {
-        Further::PrintBuffer | Further::CharacterPlot => true,
+        Further::PrintBuffer | Further::CharacterPlot | Further::UserCharacter => true,
         Further::XTick | Further::YTick => true,
         Further::EdgePolygon | Further::FillPolygon => true,
         Further::FillAbsolute | Further::FillRelative => true,

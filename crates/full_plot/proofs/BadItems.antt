@@ -113,9 +113,10 @@ params_same c is.Initialize ns h = absurd (cc)
 params_same c is.DefaultValues ns h = absurd (cc)
 params_same c i ns h = refl
 
--- only BZ and BR ask for curves
+-- only BZ and BR ask for curves, and only UC for a character
 abbrev is_curves : FurtherRequest → Bool
 is_curves (request.Curves relative) = true
+is_curves request.UserCharacter = true
 is_curves r = false
 
 not_curves : {A : Type 0} (asked : A → FurtherRequest) → ((a : A) → is_curves (asked a) ≡ false) → (o : Option A) → is_curves (request_by asked o) ≡ false
@@ -147,6 +148,7 @@ further_no_curves of.ArcAbsoluteThreePoint ns read t = not_curves (request.Arc f
 further_no_curves of.ArcRelativeThreePoint ns read t = not_curves (request.Arc true) (λ a. refl) _
 further_no_curves of.BezierAbsolute ns read t = absurd (true≢false t)
 further_no_curves of.BezierRelative ns read t = absurd (true≢false t)
+further_no_curves of.UserCharacter ns read t = absurd (true≢false t)
 further_no_curves of.ChordTolerance ns read t = not_curves request.Chords (λ a. refl) _
 further_no_curves of.Transparency ns read t = not_curves request.Ink (λ a. refl) _
 further_no_curves of.ScreenedVectors ns read t = not_curves request.Ink (λ a. refl) _
@@ -171,6 +173,7 @@ request_nothing : (c : Context) (r : FurtherRequest) (ns : List ℤ) → request
     → Nothing (request_steps r ns) c (request_after c r)
 request_nothing c request.Wrong ns h k = record { no_steps = refl; same = refl }
 request_nothing c (request.Curves relative) ns h k = absurd (true≢false k)
+request_nothing c request.UserCharacter ns h k = absurd (true≢false k)
 request_nothing c (request.Characters s) ns h k = absurd (only_skipped (names_unknown_set s) h)
 request_nothing c (request.Fill fill.Solid) ns h k = absurd (cc)
 request_nothing c (request.Fill fill.Pattern) ns h k = absurd (cc)

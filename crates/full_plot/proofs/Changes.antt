@@ -16,12 +16,14 @@ use Rattle.full_settings.specs.declared.character_moves.CharacterMove.TheVariant
 use Rattle.full_settings.specs.declared.points.ArcPoints.{ArcPoints}
 use Rattle.full_settings.specs.declared.points.CurvePoints.{CurvePoints}
 use Rattle.full_settings.specs.declared.polygon_setting.PolygonStep.TheVariants.{Begin}
+use Rattle.full_settings.specs.declared.user_moves.UserMove.{UserMove}
 use Rattle.full_notes.specs.Contexts.{Context}
 use Rattle.line_types.specs.declared.run.Run.{Run}
 use Rattle.character_sets.specs.declared.sign.Sign.{Sign}
 use Rattle.full_settings.specs.Letters.{grains_of_share}
 use Rattle.lettering.specs.Cells.{cell_offset}
 use Rattle.lettering.specs.Labels.{styled_label_end, styled_label_strokes}
+use Rattle.lettering.specs.UserCharacters.{user_end}
 use Rattle.lettering.specs.declared.style.Style.{Style}
 use Rattle.polygons.specs.Buffers.{Contents, begun_at}
 use Rattle.polygons.specs.Laws.{HoldsPolygons}
@@ -30,11 +32,12 @@ use Rattle.curves.specs.Arcs.{arc_places}
 use Rattle.curves.specs.Beziers.{bezier_places}
 use Rattle.full_plot.specs.Curves.{arc_step, arrived, curve_pen, curve_step, gone_over, lined, lined_in}
 use Rattle.full_plot.specs.Lines.{drawn_along, line_step, places_of, state_after, step_path, with_state}
-use Rattle.full_plot.specs.Machine.{FullStep, Core, Print, Place, Tick, ArcThrough, Curve, PolygonBy, EdgeBuffer, FillBuffer, Rectangle, WedgeEdge, WedgeFill}
+use Rattle.full_plot.specs.Machine.{FullStep, Core, Print, Place, Tick, ArcThrough, Curve, PolygonBy, EdgeBuffer, FillBuffer, Rectangle, WedgeEdge, WedgeFill, UserMoveBy, UserEnd}
 use Rattle.full_plot.specs.Machine.{core_step, full_moved, marked, marked_in, touched_in}
 use Rattle.full_plot.specs.Polygons.{lined_by, lined_step, only_figure, trace_step}
 use Rattle.full_plot.specs.Bold.{bold_line, bold_lines, letter_lines}
 use Rattle.full_plot.specs.Texts.{are_bold, at_margin, inked_at_pen, label_by, labelled, letters_at_pen, line_at, margin_by, marked_by, moved_by, moved_by_characters, put, shifted_by, signs_of, style_of, tick_distance, tick_end, ticked, with_margin}
+use Rattle.full_plot.specs.UserCharacters.{character_line, is_near, move_places, user_ended, user_moved}
 use Rattle.full_plot.specs.Worlds.{FullWorld, full_followed, with_core}
 use Rattle.full_plot.proofs.HeldPolygons.{Follows, figured, follows_on, reached_hold, traced_holds, unchanged}
 
@@ -99,6 +102,8 @@ is_silent on (Tick is_upright) = false
 is_silent on EdgeBuffer = false
 is_silent on (FillBuffer by_winding) = false
 is_silent on (Rectangle relative c) = false
+is_silent on (UserMoveBy m) = false
+is_silent on UserEnd = false
 is_silent on (WedgeEdge wedge) = false
 is_silent on (WedgeFill wedge) = false
 is_silent on s = true
@@ -216,6 +221,18 @@ module _ {R : FullWorld → FullWorld → Type 0} {May : Type 0} (h : CoreChange
       let end = tick_end w.core.state.frame.rotation is_upright in
       let stroke : Spot × Spot = (end (neg_ℤ (part w.writing.ticks.down)), end (part w.writing.ticks.up)) in
       by_core w (inked_at_pen w.core (stroke ∷ [])) (inked w (stroke ∷ []) m)
+
+  -- characters by moves
+  character_lined : (w : FullWorld) (is_bold is_drawn : Bool) (places : List Spot) → May → In (With w) (character_line is_bold is_drawn w.core places)
+  character_lined w true true places m = bold_line_drawn w places m
+  character_lined w true false places m = travelled w false places m
+  character_lined w false is_drawn places m = travelled w is_drawn places m
+
+  pub user_move_holds : (w : FullWorld) (n : UserMove) → May → In (R w) (user_moved w n)
+  user_move_holds w n m = in_if (R w) (is_near n.to) _ (by_core w _ (character_lined w (are_bold w) n.is_drawn (move_places w n) m))
+
+  pub user_end_holds : (w : FullWorld) → May → In (R w) (user_ended w)
+  user_end_holds w m = by_core w _ (put_at w (moved_by w.core.state.place (user_end (style_of w))) m)
 
   -- lines: out of polygon mode they may be drawn
   abbrev MayLine : FullWorld → Type 0

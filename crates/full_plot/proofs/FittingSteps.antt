@@ -18,11 +18,13 @@ use Rattle.full_settings.specs.declared.width_setting.WidthSetting.{WidthSetting
 use Rattle.full_settings.specs.ColourRanges.{pen_colour_in}
 use Rattle.full_settings.specs.CurveParameters.{curve_points}
 use Rattle.full_settings.specs.LetterParameters.{letter_direction}
+use Rattle.full_settings.specs.UserMoves.{user_moves}
+use Rattle.full_settings.specs.declared.user_moves.UserMove.{UserMove}
 use Rattle.full_settings.specs.WidthParameters.{percent_width}
 use Rattle.full_notes.specs.Contexts.{Context, read_in, request_in}
 use Rattle.full_notes.specs.Notes.{after_body, request_after}
-use Rattle.full_plot.specs.Items.{as_core, full_steps, letters_steps, more_steps, params_steps, request_steps, size_by, width_steps, widths_steps}
-use Rattle.full_plot.specs.Machine.{FullStep, Curve, Letter, Rewiden, EndSheet}
+use Rattle.full_plot.specs.Items.{as_core, character_steps, full_steps, letters_steps, more_steps, params_steps, request_steps, size_by, width_steps, widths_steps}
+use Rattle.full_plot.specs.Machine.{FullStep, Curve, Letter, Rewiden, EndSheet, UserEnd, UserMoveBy}
 use Rattle.full_notes.specs.Escapes.{escape_asks}
 use Rattle.full_plot.proofs.Changes.{either, fits}
 use Rattle.full_plot.proofs.FullChanges.{are_fit, are_silent}
@@ -63,6 +65,14 @@ curves_fit : (on relative : Bool) (points : List CurvePoints) → are_fit on (ma
 curves_fit on relative [] = refl
 curves_fit on relative (p ∷ points) = curves_fit on relative points
 
+user_moves_fit : (on : Bool) (moves : List UserMove) → are_fit on (map UserMoveBy moves) ≡ true
+user_moves_fit on [] = refl
+user_moves_fit on (m ∷ moves) = user_moves_fit on moves
+
+character_fit : (on : Bool) (ns : List ℤ) → are_fit on (character_steps ns) ≡ true
+character_fit on [] = refl
+character_fit on (n ∷ ns) = both_fit on (map UserMoveBy (user_moves (n ∷ ns))) (UserEnd ∷ []) (user_moves_fit on (user_moves (n ∷ ns))) refl
+
 -- what is not silent comes out of polygon mode
 is_off : (on : Bool) → (on ≡ true → false ≡ true) → not on ≡ true
 is_off true h = absurd (true≢false (sym (h refl)))
@@ -72,6 +82,7 @@ request_fit : (c : Context) (r : FurtherRequest) (ns : List ℤ)
     → (c.in_polygon ≡ true → are_silent (request_after c r).in_polygon (request_steps r ns) ≡ true)
     → are_fit (request_after c r).in_polygon (request_steps r ns) ≡ true
 request_fit c (request.Curves relative) ns h = curves_fit c.in_polygon relative (curve_points ns)
+request_fit c request.UserCharacter ns h = character_fit c.in_polygon ns
 request_fit c (request.FillPolygon by_winding) ns h = and_from (not c.in_polygon) true (is_off c.in_polygon h) refl
 request_fit c (request.Rectangle relative corner) ns h = and_from (not c.in_polygon) true (is_off c.in_polygon h) refl
 request_fit c (request.FillWedge w) ns h = and_from (not c.in_polygon) true (is_off c.in_polygon h) refl

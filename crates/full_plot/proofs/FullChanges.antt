@@ -26,14 +26,14 @@ use Rattle.full_plot.specs.declared.fills.Ink.TheVariants.{Width, Line}
 use Rattle.full_plot.specs.Curves.{curve_pen}
 use Rattle.full_plot.specs.Inks.{fills_nothing}
 use Rattle.full_plot.specs.Lines.{drawn_along, drawn_in_type, places_of}
-use Rattle.full_plot.specs.Machine.{FullStep, Core, Restyle, Restart, PointsBy, Letter, Print, Place, Tick, ArcThrough, Curve, PolygonBy, EdgeBuffer, FillBuffer, AnchorBy, Rectangle, WedgeEdge, WedgeFill, EndSheet}
+use Rattle.full_plot.specs.Machine.{FullStep, Core, Restyle, Restart, PointsBy, Letter, Print, Place, Tick, ArcThrough, Curve, PolygonBy, EdgeBuffer, FillBuffer, AnchorBy, Rectangle, WedgeEdge, WedgeFill, UserMoveBy, UserEnd, EndSheet}
 use Rattle.full_plot.specs.Machine.{anchored, core_step, ends_with, full_step, points_set, rewidened, run}
 use Rattle.full_plot.specs.Polygons.{edges_drawn, kept_step, only_figure}
 use Rattle.full_plot.specs.Texts.{sets_margin, written}
 use Rattle.full_plot.specs.Wedges.{wedge_kept, wedge_places}
 use Rattle.full_plot.specs.Work.{worked}
 use Rattle.full_plot.specs.Worlds.{FullWorld}
-use Rattle.full_plot.proofs.Changes.{CoreChanges, In, Shifts, along_holds, arc_holds, by_map, by_map_of, by_then, core_holds, curve_holds, either, fits, in_if, is_silent, place_holds, tick_holds}
+use Rattle.full_plot.proofs.Changes.{CoreChanges, In, Shifts, along_holds, arc_holds, by_map, by_map_of, by_then, core_holds, curve_holds, either, fits, in_if, is_silent, place_holds, tick_holds, user_end_holds, user_move_holds}
 use Rattle.full_plot.proofs.HeldPolygons.{Follows, begun_follows, cleared, closed_follows, figured, unchanged}
 
 -- the relation holds of strokes, if any may be made; of the end of a sheet; of a solid fill out of polygon mode, if it holds of its
@@ -167,6 +167,8 @@ module _ {R : FullWorld → FullWorld → Type 0} {May : Type 0} (h : Changes R 
       by_map_of of_core w (wedge_kept w wedge) (buffer_filled false)
       (in_if (R w) (are_in_range w.core.range places) _ (h.aside w _ refl refl refl refl (λ t. t) (figured w places)))
       (λ (v : FullWorld) (k : R w v). fill_holds false v (m refl) (still_off w v k (not-true w.context.in_polygon fit)))
+  step_holds w (UserMoveBy n) m fit = user_move_holds of_core w n (m refl)
+  step_holds w UserEnd m fit = user_end_holds of_core w (m refl)
   step_holds w EndSheet m fit = h.ended w
   step_holds w s m fit = buffer_kept w _ refl refl refl refl (λ t. t) refl
 

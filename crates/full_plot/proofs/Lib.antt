@@ -1,4 +1,5 @@
 pub mod PlotExamples
+mod UserExamples
 mod PenExamples
 mod FillExamples
 mod InkExamples
@@ -37,4 +38,5 @@ pub mod Wider
 mod BadItems
 mod Traced
 mod Undrawn
+pub mod UserSteps
 mod Restarts

@@ -97,6 +97,7 @@ params_silent c i ns on e =
 
 -- what is asked for in polygon mode
 abbrev is_asked : FurtherRequest → Bool
+is_asked request.UserCharacter = false
 is_asked r = are_silent true (request_steps r [])
 
 asked_by : {A : Type 0} (ask : A → FurtherRequest) → ((a : A) → is_asked (ask a) ≡ true) → (o : Option A) → is_asked (request_by ask o) ≡ true
@@ -136,6 +137,7 @@ further_asked of.RelativePoints ns h = asked_by request.Points (λ a. refl) _
 further_asked of.ColourRange ns h = asked_by request.Colours (λ a. refl) _
 further_asked of.StandardFont ns h = asked_by request.Characters (λ a. refl) _
 further_asked of.AlternateFont ns h = asked_by request.Characters (λ a. refl) _
+further_asked of.UserCharacter ns h = absurd (true≢false h)
 further_asked of.PrintBuffer ns h = absurd (true≢false h)
 further_asked f ns h = refl
 
@@ -147,6 +149,7 @@ request_silent : (c : Context) (r : FurtherRequest) (ns : List ℤ) → c.in_pol
     → are_silent (request_after c r).in_polygon (request_steps r ns) ≡ true
 request_silent c (request.Curves relative) ns on h =
     when_on c.in_polygon (map (Curve relative) (curve_points ns)) on (curves_silent relative (curve_points ns))
+request_silent c request.UserCharacter ns on h = absurd (true≢false (sym h))
 request_silent c (request.Polygon Begin) ns on h = refl
 request_silent c (request.Polygon Close) ns on h = refl
 request_silent c (request.Polygon End) ns on h = refl

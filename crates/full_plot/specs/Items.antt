@@ -17,6 +17,7 @@ use Rattle.full_settings.specs.declared.width_setting.WidthSetting.{WidthSetting
 use Rattle.full_settings.specs.ColourRanges.{pen_colour_in}
 use Rattle.full_settings.specs.CurveParameters.{curve_points}
 use Rattle.full_settings.specs.LetterParameters.{letter_direction}
+use Rattle.full_settings.specs.UserMoves.{user_moves}
 use Rattle.full_settings.specs.WidthParameters.{percent_width}
 use Rattle.full_notes.specs.Contexts.{Context, read_in, request_in}
 use Rattle.full_notes.specs.Escapes.{escape_asks}
@@ -26,6 +27,12 @@ use Rattle.full_plot.specs.Machine.{FullStep, Core, Style, Restyle, Restart, Wid
 use Rattle.full_plot.specs.Machine.{CharactersBy, InkBy, Mark}
 use Rattle.full_plot.specs.Machine.{Keep, Print, Place, TickBy, Tick, ArcThrough, Curve, PolygonBy, EdgeBuffer}
 use Rattle.full_plot.specs.Machine.{FillBuffer, FillBy, AnchorBy, Rectangle, WedgeEdge, WedgeFill, EndSheet, run}
+use Rattle.full_plot.specs.Machine.{UserMoveBy, UserEnd}
+
+-- UC: its moves, and the way on; without numbers nothing
+abbrev pub character_steps : List ℤ → List FullStep
+character_steps [] = []
+character_steps ns = map UserMoveBy (user_moves ns) ++ UserEnd ∷ []
 
 -- the steps of what a further instruction asks for by its numbers; CR and CT only change how other items are read
 abbrev pub request_steps : FurtherRequest → List ℤ → List FullStep
@@ -50,6 +57,7 @@ request_steps (request.Rectangle relative c) ns = Rectangle relative c ∷ []
 request_steps (request.EdgeWedge w) ns = WedgeEdge w ∷ []
 request_steps (request.FillWedge w) ns = WedgeFill w ∷ []
 request_steps (request.Chords usual) ns = []
+request_steps request.UserCharacter ns = character_steps ns
 request_steps request.Print ns = Print ∷ []
 request_steps request.EndSheet ns = EndSheet ∷ []
 request_steps request.Begin ns = Core (Set Start) ∷ (Restart ∷ [])

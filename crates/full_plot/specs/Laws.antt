@@ -12,7 +12,7 @@ use Rattle.plot_page.specs.Segments.{Segment}
 use Rattle.plot_page.specs.declared.page.Page.{Page}
 use Rattle.plot_page.specs.declared.stroke.TheConstants.{FARTHEST_END, FARTHEST_PLACE}
 use Rattle.hpgl_text.specs.Shapes.{ItemShape, BodyShape, Params, Further, DamagedMoves, DamagedCurves, Escape, FormFeed, Label, Terminator, Kept, Symbol, Known}
-use Rattle.hpgl_text.specs.declared.further.Further.TheVariants.{BeginPlot, BezierAbsolute, BezierRelative}
+use Rattle.hpgl_text.specs.declared.further.Further.TheVariants.{BeginPlot, BezierAbsolute, BezierRelative, UserCharacter}
 use Rattle.hpgl_text.specs.declared.instruction.Instruction.TheVariants.{Initialize, PenUp, PenDown, PlotAbsolute, PlotRelative}
 use Rattle.plot_settings.specs.Meanings.{Load, Step}
 use Rattle.plot_settings.specs.Slants.{is_off_axis}
@@ -96,7 +96,8 @@ abbrev pub CoreNotedAsInCore : Type 0
 CoreNotedAsInCore = (items : List ItemShape) → All IsCoreItem items → notes items ≡ noting.notes items
 
 -- what is drawn before a wrong number: moves to the pairs of coordinates before an unpaired one or a wrong byte, and curves
--- before the numbers that make none or such a byte; the other commands of an escape are obeyed
+-- before the numbers that make none or such a byte; the moves of UC before a number alone; the other commands of an escape
+-- are obeyed
 abbrev pub draws_in_part : BodyShape → Bool
 draws_in_part (Params PenUp ns) = true
 draws_in_part (Params PenDown ns) = true
@@ -104,6 +105,7 @@ draws_in_part (Params PlotAbsolute ns) = true
 draws_in_part (Params PlotRelative ns) = true
 draws_in_part (Further BezierAbsolute ns) = true
 draws_in_part (Further BezierRelative ns) = true
+draws_in_part (Further UserCharacter ns) = true
 draws_in_part (DamagedMoves moves ns) = true
 draws_in_part (DamagedCurves relative ns) = true
 draws_in_part (Escape bytes) = true

@@ -7,6 +7,7 @@ pub mod Inks
 pub mod Lines
 pub mod Polygons
 pub mod Wedges
+pub mod UserCharacters
 pub mod Fills
 pub mod Bold
 pub mod Texts

@@ -27,6 +27,7 @@ use Rattle.full_settings.specs.declared.polygon_setting.Anchor.TheVariants.{Page
 use Rattle.full_settings.specs.declared.polygon_setting.PolygonStep.{PolygonStep}
 use Rattle.full_settings.specs.declared.polygon_setting.Wedge.{Wedge}
 use Rattle.full_settings.specs.declared.tick_length.TickLength.{TickLength}
+use Rattle.full_settings.specs.declared.user_moves.UserMove.{UserMove}
 use Rattle.full_settings.specs.declared.width_setting.WidthSetting.{WidthSetting}
 use Rattle.full_settings.specs.Characters.{characters_with, usual_characters}
 use Rattle.full_settings.specs.FillParameters.{fill_with}
@@ -39,6 +40,7 @@ use Rattle.full_plot.specs.Fills.{buffer_filled}
 use Rattle.full_plot.specs.Inks.{ink_set}
 use Rattle.full_plot.specs.Polygons.{edge_step, edges_drawn, kept_step, lined_step, polygon_set}
 use Rattle.full_plot.specs.Texts.{at_margin, lettered, marked_by, moved_by_characters, ticked, written}
+use Rattle.full_plot.specs.UserCharacters.{user_ended, user_moved}
 use Rattle.full_plot.specs.Wedges.{wedge_edged, wedge_kept}
 use Rattle.full_plot.specs.Work.{worked, then_worked}
 use Rattle.full_plot.specs.Worlds.{FullWorld, page_origin, usual_filling, usual_writing, with_core, full_followed}
@@ -162,7 +164,8 @@ then_filled (Some w) = Some (buffer_filled false w)
 -- a step of core; what LT or UL sets; what DF and what IN do besides; what WU, PT or a PW in percent sets; widths by
 -- other P1 and P2; P1 and P2 by IR; how strokes show; how letters are written; what CS, CA, SS, SA, SD or AD sets; the symbol of SM; the
 -- text of BL, and PB; a CP; what TL sets, and XT or YT; an AT or an RT, and a curve of BZ or BR; a PM; EP, and FP by
--- winding or not; what FT and AC set; an RA or an RR; an EW, and a WG; the end of a sheet
+-- winding or not; what FT and AC set; an RA or an RR; an EW, and a WG; a move of UC, and its
+-- end; the end of a sheet
 pub data FullStep : Type 0 where
   Core : Step → FullStep
   Style : LineSetting → FullStep
@@ -190,6 +193,8 @@ pub data FullStep : Type 0 where
   Rectangle : Bool → Corner → FullStep
   WedgeEdge : Wedge → FullStep
   WedgeFill : Wedge → FullStep
+  UserMoveBy : UserMove → FullStep
+  UserEnd : FullStep
   EndSheet : FullStep
 
 -- a sheet ends if it has a stroke; no strokes are taken from one sheet to the next
@@ -229,6 +234,8 @@ full_step w (AnchorBy a) = anchored w a
 full_step w (Rectangle relative c) = then_filled (kept_step w (Edge relative c.x c.y))
 full_step w (WedgeEdge wedge) = wedge_edged w wedge
 full_step w (WedgeFill wedge) = then_filled (wedge_kept w wedge)
+full_step w (UserMoveBy m) = user_moved w m
+full_step w UserEnd = user_ended w
 full_step w EndSheet = Some (record w { ends = ends_with w.ends (length w.core.kept) })
 
 abbrev pub run : FullWorld → List FullStep → Option FullWorld

@@ -51,8 +51,8 @@ fn ink_bold_stroke(plotter: &mut Plotter, start: Spot, from: Spot, to: Spot) -> 
     bold_line(plotter, moved_by(start, from), moved_by(start, to))
 }
 
-// A bold stroke from one place to another.
-fn bold_line(plotter: &mut Plotter, from: Spot, to: Spot) -> Result<(), Stop>
+/// A bold stroke from one place to another.
+pub fn bold_line(plotter: &mut Plotter, from: Spot, to: Spot) -> Result<(), Stop>
     ensures { core.Runs
         (bold.bold_line (core.seen plotter.old) (from ∷ (to ∷ []))) (core.seen plotter.new) result }
 {

@@ -94,6 +94,7 @@ impl FullPlotter {
                 Ok(())
             }
             FurtherRequest::Curves(is_relative) => self.draw_curves(is_relative, numbers),
+            FurtherRequest::UserCharacter => self.draw_character(numbers),
             FurtherRequest::Polygon(step) => self.set_polygon(step),
             FurtherRequest::EdgePolygon => self.edge_polygon(),
             FurtherRequest::FillPolygon(by_winding) => self.fill_polygon(by_winding),

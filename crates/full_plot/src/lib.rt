@@ -27,6 +27,7 @@ mod sheets;
 mod steps;
 mod texts;
 mod ticks;
+mod user_characters;
 mod widths;
 mod work;
 mod writing;

@@ -27,7 +27,7 @@ use Rattle.full_settings.specs.declared.requests.FurtherRequest.TheVariants.{Col
 use Rattle.full_settings.specs.declared.requests.FurtherRequest.TheVariants.{EndSheet, Polygon, EdgePolygon}
 use Rattle.full_settings.specs.declared.requests.FurtherRequest.TheVariants.{FillPolygon, Fill, Anchor, Rectangle}
 use Rattle.full_settings.specs.declared.requests.FurtherRequest.TheVariants.{EdgeWedge, FillWedge, Chords, Begin}
-use Rattle.full_settings.specs.declared.requests.FurtherRequest.TheVariants.{Characters, Ink, Wrong}
+use Rattle.full_settings.specs.declared.requests.FurtherRequest.TheVariants.{Characters, Ink, UserCharacter, Wrong}
 
 -- what numbers ask for, or that they are wrong
 abbrev pub request_by : {A : Type 0} → (A → FurtherRequest) → Option A → FurtherRequest
@@ -75,6 +75,7 @@ further_request of.StandardFont ns = request_by Characters (font_choice Standard
 further_request of.AlternateFont ns = request_by Characters (font_choice Alternate ns)
 further_request of.Transparency ns = request_by Ink (transparency ns)
 further_request of.ScreenedVectors ns = request_by Ink (screen ns)
+further_request of.UserCharacter ns = UserCharacter
 further_request of.SelectStandard ns = Characters (Select Standard)
 further_request of.SelectAlternate ns = Characters (Select Alternate)
 further_request of.EndSheet ns = EndSheet

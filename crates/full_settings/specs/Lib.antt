@@ -14,6 +14,7 @@ pub mod TickParameters
 pub mod RelativePoints
 pub mod ColourRanges
 pub mod CurveParameters
+pub mod UserMoves
 pub mod PolygonParameters
 pub mod FillParameters
 pub mod InkParameters

@@ -78,6 +78,8 @@ pub enum FurtherRequest {
     Ink(InkSetting),
     /// CT: whether chords have the usual angle, whatever angle is named.
     Chords(bool),
+    /// UC: a character by moves, by all numbers.
+    UserCharacter,
     /// PB: the text that is kept is written.
     Print,
     /// PG and the like: the end of a sheet.
@@ -194,6 +196,7 @@ fn right_request(
         )?)),
         Further::Transparency => Some(FurtherRequest::Ink(transparency_setting(first)?)),
         Further::ScreenedVectors => Some(FurtherRequest::Ink(screen_setting(first)?)),
+        Further::UserCharacter => Some(FurtherRequest::UserCharacter),
         Further::SelectStandard => Some(FurtherRequest::Characters(CharacterSetting::Select(
             Selection::Standard,
         ))),

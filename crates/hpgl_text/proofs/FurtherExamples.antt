@@ -4,7 +4,7 @@ use Rattle.exact.proofs.Tables.{Table}
 use Rattle.hpgl_text.specs.Shapes.{ItemShape, BodyShape, Params, Further, DamagedMoves, DamagedCurves, Label, Terminator, Kept, Symbol, Known, Skipped, Bad, Stray}
 use Rattle.hpgl_text.specs.declared.instruction.Instruction.TheVariants.{Initialize, PenColour, PenDown, PenUp}
 use Rattle.hpgl_text.specs.declared.moves.Moves.TheVariants.{Down, Absolute, Relative}
-use Rattle.hpgl_text.specs.declared.further.Further.TheVariants.{LineType, ColourRange, EndSheet, BeginPlot, PrintBuffer, StandardSet, AlternateSet, StandardFont, AlternateFont, SelectStandard, SelectAlternate, Transparency, ScreenedVectors}
+use Rattle.hpgl_text.specs.declared.further.Further.TheVariants.{LineType, ColourRange, EndSheet, BeginPlot, PrintBuffer, StandardSet, AlternateSet, StandardFont, AlternateFont, SelectStandard, SelectAlternate, Transparency, ScreenedVectors, UserCharacter}
 use Rattle.hpgl_text.specs.declared.profile.Profile.TheVariants.{Core, Full}
 use Rattle.hpgl_text.specs.Mnemonics.{kind_of}
 use Rattle.hpgl_text.specs.Cut.{cut, cut_by}
@@ -34,6 +34,7 @@ instructions : Table full (
     ∷ (codes "CS33;CASD1,14AD;", item 0 (codes "CS") (Further StandardSet (pos 33000000 ∷ [])) ∷ item 5 (codes "CA") (Further AlternateSet []) ∷ item 7 (codes "SD") (Further StandardFont (pos 1000000 ∷ pos 14000000 ∷ [])) ∷ item 13 (codes "AD") (Further AlternateFont []) ∷ [])
     -- transparency, and screened strokes
     ∷ (codes "TR0;SV1,50TR:", item 0 (codes "TR") (Further Transparency (pos 0 ∷ [])) ∷ item 4 (codes "SV") (Further ScreenedVectors (pos 1000000 ∷ pos 50000000 ∷ [])) ∷ item 10 (codes "TR") Bad ∷ [])
+    ∷ (codes "UC;UC1,2,99,3;", item 0 (codes "UC") (Further UserCharacter []) ∷ item 3 (codes "UC") (Further UserCharacter (pos 1000000 ∷ pos 2000000 ∷ pos 99000000 ∷ pos 3000000 ∷ [])) ∷ [])
     -- the bytes are not read
     ∷ (codes "SS:1;SAPU", item 0 (codes "SS") (Further SelectStandard []) ∷ item 5 (codes "SA") (Further SelectAlternate []) ∷ item 7 (codes "PU") (Params PenUp []) ∷ [])
     ∷ (codes "PG1:2;PU", item 0 (codes "PG") (Further EndSheet []) ∷ item 6 (codes "PU") (Params PenUp []) ∷ [])  -- bytes after PG are not read

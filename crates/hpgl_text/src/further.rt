@@ -75,6 +75,8 @@ pub enum Further {
     Transparency,
     /// SV, Screened Vectors: strokes in a part of their pen's colour.
     ScreenedVectors,
+    /// UC, User-Defined Character: a character by the moves of a pen.
+    UserCharacter,
     /// SS, Select Standard Font, with its set.
     SelectStandard,
     /// SA, Select Alternate Font, with its set.

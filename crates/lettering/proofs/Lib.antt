@@ -4,3 +4,4 @@ pub mod Lists
 pub mod Reaches
 pub mod Sizes
 pub mod Turned
+mod UserExamples

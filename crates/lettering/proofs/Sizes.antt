@@ -104,6 +104,25 @@ slanted_in steps slant u s =
       most = omega (arith, p);
     }
 
+-- the same of a point of a character that is drawn by moves
+pub record IsLeaning (up slant : ℤ) : Type 0 where
+  pub up_fits : FitsSigned w128 up
+  pub slant_fits : FitsSigned w64 slant
+  pub slant_fits_too : FitsSigned w128 slant
+  pub fits : FitsSigned w128 (up *ℤ slant)
+  pub most : nat_abs (up *ℤ slant) ≤ 2 ^ 84
+
+pub leaning_in : (up slant : ℤ) → nat_abs up ≤ 2 ^ 53 → nat_abs slant ≤ 1000200000 → IsLeaning up slant
+leaning_in up slant u s =
+    let p = product_within up slant (2 ^ 53) 1000200000 u s in
+    record {
+      up_fits = omega (arith, ints);
+      slant_fits = omega (arith, ints);
+      slant_fits_too = omega (arith, ints);
+      fits = omega (arith, ints, p);
+      most = omega (arith, p);
+    }
+
 -- a share of k times as many parts, of which a size has k times as many
 pub scaled : (k : ℕ) (a b size : ℤ) (parts : ℕ) → 0 < k → 0 < parts → 0 < k * parts → a ≡ pos k *ℤ b → labels.share a size (k * parts) ≡ labels.share b size parts
 scaled k a b size parts h i j e =

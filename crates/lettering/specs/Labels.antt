@@ -32,12 +32,14 @@ styled_label_strokes style signs = strokes_from style (section_letters signs) fi
 
 -- where the pen ends: in the next letter's cell if LO's column is 0, half as many columns on if it is 1, and in the
 -- first column if it is 2
-abbrev pub styled_label_end : Style → List Sign → Spot
-styled_label_end style signs =
-    let cell = last_cell signs in
+abbrev pub end_in : Style → Cell → Spot
+end_in style cell =
     cell_offset style
     (pos (500000 * (2 - origin_column style)) *ℤ cell.column)
     (pos (10 ^ 6 * cell.line))
+
+abbrev pub styled_label_end : Style → List Sign → Spot
+styled_label_end style signs = end_in style (last_cell signs)
 
 -- how far the label moves the left margin
 abbrev pub margin_move : Style → List Sign → Spot

@@ -4,6 +4,7 @@ pub mod Cells
 pub mod Columns
 pub mod Letters
 pub mod Labels
+pub mod UserCharacters
 pub mod Lines
 -- What contracts need: bounds of the arithmetic, the strokes that are left of a label, the texts whose labels are the
 -- stick font's, and the law of labels.

@@ -57,7 +57,7 @@ impl Lettering {
 }
 
 // Halves of columns in millionths of columns.
-fn half_columns(halves: u8, columns: i64) -> i64
+pub(crate) fn half_columns(halves: u8, columns: i64) -> i64
     requires halves_in { halves ≤ 2 }
     requires columns_in { nat_abs columns ≤ 2 ^ 29 }
     ensures value { result ≡ pos (500000 * halves) *ℤ columns }

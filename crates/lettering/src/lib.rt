@@ -16,6 +16,7 @@ mod sections;
 mod share;
 mod strokes;
 mod style;
+mod user_character;
 mod written;
 
 pub use checked::Lettering;

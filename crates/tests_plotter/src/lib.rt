@@ -46,6 +46,8 @@ mod margins_set;
 #[cfg(test)]
 mod marks_set;
 #[cfg(test)]
+mod moved_characters;
+#[cfg(test)]
 mod notes_and_sheets;
 #[cfg(test)]
 mod pens;

@@ -131,8 +131,8 @@ ZZ1;PA1;PE\x00!;DI5,3;DT\n;#
 0 skipped ZZ;4 bad PA;10 stray 0;11 stray 33;19 bad DT;23 stray 35;
 
 // notes of several items, and the last one after a PE
-UC;LT9;PE<
-0 skipped UC;3 bad LT;7 open PE;
+UF;LT9;PE<
+0 skipped UF;3 bad LT;7 open PE;
 
 SP256;LBx
 0 bad SP;6 open LB;

@@ -5,7 +5,7 @@ use std::test::Fail;
 
 const NUMBERED: &str = "\
 LT1;UL1;WU1;PT1;SR1;SL1;DR1;DV1;LO1;CP1;ES1;TL1;XT1;YT1;PM1;EP1;FP1;FT1;AC1;RA1;RR1;EW1;WG1;AT1;RT1;\
-BZ1;BR1;CT1;IR1;CR1;CS1;CA1;SD1;AD1;TR1;SV1;
+BZ1;BR1;CT1;IR1;CR1;CS1;CA1;SD1;AD1;TR1;SV1;UC1;
 Further(LineType, [Number { millionths: 1000000 }])
 Further(UserLineType, [Number { millionths: 1000000 }])
 Further(WidthUnit, [Number { millionths: 1000000 }])
@@ -42,6 +42,7 @@ Further(StandardFont, [Number { millionths: 1000000 }])
 Further(AlternateFont, [Number { millionths: 1000000 }])
 Further(Transparency, [Number { millionths: 1000000 }])
 Further(ScreenedVectors, [Number { millionths: 1000000 }])
+Further(UserCharacter, [Number { millionths: 1000000 }])
 
 ";
 
@@ -274,8 +275,8 @@ PSNPLAMCPPMTQLSTVSFSASAPECGCGMFNFISBDSIVCMCFCCLMTDRFMGIMKY\
 DCDPOAOCODOEOFOGOHOIOKOLOOOPOSOTOW
 0 skipped, 46 without effect
 
-UCDLUFRPZZ
-5 skipped, 0 without effect
+DLUFRPZZ
+4 skipped, 0 without effect
 
 ";
 
@@ -285,8 +286,8 @@ DCDPOAOCODOEOFOGOHOIOKOLOOOPOSOTOW
 53 skipped, 0 without effect
 
 LT1;UL1;WU1;PT1;SR1;SL1;DR1;DV1;LO1;CP1;ES1;TL1;XT1;YT1;PM1;EP1;FP1;FT1;AC1;RA1;RR1;EW1;WG1;AT1;RT1;\
-BZ1;BR1;CT1;IR1;CR1;
-30 skipped, 0 without effect
+BZ1;BR1;CT1;IR1;CR1;UC1;
+31 skipped, 0 without effect
 
 PG1:\";\"2;AF;AH;NR;FR;BP;PB
 7 skipped, 0 without effect
