@@ -5,8 +5,8 @@ own that has sample plots under the names of the recipes and a copy of examples/
 and `lpr` keep what they get. CHECKS of tests/recipe_checks.py and DOCUMENT_CHECKS of tests/document_checks.py
 say what each block must have made. A block without a check fails, and so does a check without a block. A block
 that needs a missing command fails, or is skipped. A `text` block that shows a terminal must show what its commands print,
-and a command within a sentence must run. NOT_RUN of tests/document_checks.py has the commands that are left out.
-Instructions that docs/INSTRUCTIONS.md lists as skipped must be skipped, and files that a document names must be there.
+and a command within a sentence must run. NOT_RUN of tests/document_checks.py has the commands that are left out. Files
+that a document names must be there.
 """
 
 import glob
@@ -128,23 +128,8 @@ def prints(command, output):
     return Check(made)
 
 
-def skips(name):
-    """A check that an instruction is skipped, as a table says."""
-    def made(ran):
-        if f"note 0 skipped {name}\n" not in ran.output:
-            yield f"{name} is not skipped"
-    return Check(made)
-
-
-def skipped_instructions(heading, section):
-    """The instructions in the first column of a table of skipped instructions."""
-    if heading.endswith("skipped"):
-        for row in section["rows"]:
-            yield from re.findall(r"`([A-Z]{2})`", row[0])
-
-
 def all_blocks(path):
-    """What is run of a document: its blocks, its terminals, its skipped instructions, and commands in sentences."""
+    """What is run of a document: its blocks, its terminals, and commands in sentences."""
     checks = {**CHECKS, **DOCUMENT_CHECKS}.get(path, {})
     yield from pairs(path, checks)
     for heading, section in read_sections(os.path.join(TOP, path)).items():
@@ -153,8 +138,6 @@ def all_blocks(path):
             shown = [each for text in section.get("text", []) for each in transcript(text)]
             for number, (command, output) in enumerate(shown, 1):
                 yield heading, f"shown {number}", section, command, prints(command, output)
-        for name in skipped_instructions(heading, section):
-            yield heading, name, section, f"printf '{name};' | plotraster report", skips(name)
     with open(os.path.join(TOP, path), encoding="utf-8") as text:
         for command in dict.fromkeys(commands_in_sentences(path, text.read())):
             if not is_not_run(command):

@@ -5,8 +5,8 @@ block in one of their specs/. Each line of a `text` block must stand in crates.t
 crate library_examples must be shown in docs/LIBRARY.md. The tables of definitions in docs/PROOF.md must be what
 tools/path prints, and the figures of speed in docs/SPEED.md and README.md those of bench/results. The calls in
 docs/PROOF.md must be public in their crates, the limits and the patterns of lines in docs/INSTRUCTIONS.md those
-of the sources, and its instructions in the manual page. A table of a document must be one, and a link must lead to
-a heading.
+of the sources, its instructions in the manual page, and its table of all instructions what the code's tables say.
+A table of a document must be one, and a link must lead to a heading.
 """
 
 import glob
@@ -16,6 +16,7 @@ import subprocess
 
 import pytest
 
+import instruction_table
 from reference.line_types import ADAPTIVE, FIXED
 from shared import TOP, assert_nothing, read
 
@@ -174,8 +175,34 @@ def test_instructions_of_the_manual_page(heading):
     assert_nothing(f"not in the manual page: {name}" for name in names if not re.search(rf"\b{name}\b", page))
 
 
-def test_instructions_that_core_skips():
-    """What only the profile full draws is in the table of what core skips, and what core draws is not."""
-    skipped, drawn = (set(names_in_table(it)) for it in ("Instructions that core reports as skipped", "What is drawn"))
-    assert set(names_in_table("The profile full")) - drawn <= skipped
-    assert not skipped & drawn
+def wrong_states():
+    """Where the table of all instructions differs from the code's tables."""
+    core, full = instruction_table.states_of_the_code()
+    rows = {row.code: row for row in instruction_table.rows()}
+    yield from (f"not in the table: {code}" for code in full.keys() - rows.keys())
+    for code, row in rows.items():
+        for profile, said, states in (("core", row.core, core), ("full", row.full, full)):
+            if said.said != states.get(code, "skipped"):
+                yield f"{code} in {profile}: {states.get(code, 'skipped')}, and not {said.said}"
+
+
+def test_table_of_all_instructions():
+    """It is in the order of the alphabet, each instruction has a name, and is what the code makes of it."""
+    rows = instruction_table.rows()
+    codes = [row.code for row in rows]
+    assert codes == sorted(set(codes))
+    assert_nothing(f"{row.code} has no name" for row in rows if not re.match("[A-Z]", row.name))
+    assert_nothing(wrong_states())
+
+
+def test_links_of_all_instructions():
+    """What core or full reads is linked to the table that has it, and all of these tables is read."""
+    rows = instruction_table.rows()
+    drawn, further = (set(names_in_table(it)) for it in ("What is drawn", "The profile full"))
+    assert {row.code for row in rows if row.core.link == "what-is-drawn"} == drawn
+    assert {row.code for row in rows if row.full.link == "what-is-drawn"} == drawn - further
+    assert {row.code for row in rows if row.full.link == "the-profile-full"} == further
+    for row in rows:
+        for state in (row.core, row.full):
+            assert state.link or state.said in ("skipped", "no effect"), row.code
+            assert state.said == "skipped" or not state.is_marked, row.code

@@ -2,7 +2,7 @@
 
 The manual page has the messages of the program and the meaning of each exit status. It and
 docs/INSTRUCTIONS.md have the ranges of parameters, their defaults and the colours of pens. docs/INSTRUCTIONS.md
-also says what the profile full skips, and how much shading covers.
+also says which instructions are skipped, and how much shading covers.
 """
 
 import re
@@ -10,6 +10,7 @@ import subprocess
 
 import pytest
 
+import instruction_table
 from reference import messages
 from reference.command_line import DOCUMENTS
 from shared import assert_nothing, ink, read, read_bitmap, run
@@ -172,13 +173,12 @@ def test_default(expression, given, bare, program):
     assert re.sub(r"^note .*\n", "", report(program, with_others), flags=re.M) != drawn
 
 
-def test_what_full_skips(program):
-    """Of the instructions that core skips, the profile full skips those that docs/INSTRUCTIONS.md names."""
-    text = re.search(r"^## Instructions that core reports as skipped\n(.*)", read(INSTRUCTIONS), re.M | re.S)[1]
-    names = [name for row in re.findall(r"^\| (`.+?) \|", text, re.M) for name in re.findall(r"`([A-Z]{2})`", row)]
-    said = re.search(r"the profile full skips only `(\w+)`\.", plain(INSTRUCTIONS)).groups()
-    assert len(names) > 40
-    assert {name for name in names if f"0 skipped {name}" in notes(program, f"{name};", True)} == set(said)
+@pytest.mark.parametrize("profile", ["core", "full"])
+def test_what_is_skipped(profile, program):
+    """The program skips what the table of all instructions says."""
+    codes = {row.code: getattr(row, profile).said for row in instruction_table.rows()}
+    skipped = {code for code in codes if f"0 skipped {code}" in notes(program, f"{code};", profile == "full")}
+    assert skipped == {code for code, said in codes.items() if said == "skipped"}
 
 
 def test_cover_of_shading(program):
