@@ -201,4 +201,4 @@ def test_pictures_of_the_gallery():
 
 
 def test_number_of_blocks():
-    assert len(list(blocks_of_documents())) > 90
+    assert len(list(blocks_of_documents())) > 55
