@@ -290,6 +290,6 @@ def test_random_cases(case_of):
     assert min(rotations.count(str(degrees)) for degrees in QUARTERS) > CASES / 40
     profiles = {case.options.get("profile", "full" if case.form == "draw" else "core") for case in turned}
     assert "full" in profiles and (case_of is random_apart_case or "core" in profiles)
-    more = (case_of(seed) for seed in range(CASES, 10 * CASES))
-    are_full = (case for case in itertools.chain(turned, more) if case.options.get("profile", "full" if case.form == "draw" else "core") == "full")
+    more = itertools.chain(turned, (case_of(seed) for seed in range(CASES, 10 * CASES)))
+    are_full = (case for case in more if case.options.get("profile", "full" if case.form == "draw" else "core") == "full")
     assert case_of is random_pens_case or any(answer(*case).error.endswith(f"{FAR}\n") for case in are_full)
