@@ -8,7 +8,8 @@ use Rattle.plot_page.specs.Segments.{Segment}
 use Rattle.plot_settings.specs.Colours.{rgb, default_colours}
 use Rattle.plot_settings.specs.Settings.{all_pens}
 use Rattle.hpgl_plot.specs.Frames.{place_along, back_along}
-use Rattle.hpgl_plot.specs.Inks.{is_white, screened}
+use Rattle.plot_page.specs.Colours.{is_white}
+use Rattle.hpgl_plot.specs.Inks.{screened}
 use Rattle.hpgl_plot.specs.Machine as core
 use Rattle.full_plot.specs.Bold.{bold_width}
 use Rattle.full_plot.specs.Lines.{line_step}

@@ -11,7 +11,8 @@ use Rattle.full_settings.specs.LineStyles.{is_solid, shape_by}
 use Rattle.full_settings.specs.declared.line_setting.LineKind.TheVariants as kind
 use Rattle.full_settings.specs.declared.line_setting.LineKind.{LineKind}
 use Rattle.hpgl_plot.specs.declared.state.State.{State}
-use Rattle.hpgl_plot.specs.Inks.{draws_nothing, is_white, pen_colour}
+use Rattle.plot_page.specs.Colours.{is_white}
+use Rattle.hpgl_plot.specs.Inks.{draws_nothing, pen_colour}
 use Rattle.hpgl_plot.specs.Strokes.{by_a_pen, drawn, joined, stroke}
 use Rattle.full_plot.specs.Dashing.{dashed, run_through}
 use Rattle.full_plot.specs.Lines.{inked}

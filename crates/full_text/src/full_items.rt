@@ -7,9 +7,10 @@ ghost use Rattle.hpgl_text.specs.Seen.{body_shape};
 ghost use Rattle.full_text.specs.Left.{left_from, silent_at};
 
 use crate::languages::language_after;
-use crate::text::{ESCAPE, escape_at, past};
+use crate::text::escape_at;
 use hpgl_text::{
-    Body, FIRST_TERMINATOR, Item, Profile, Terminator, read_item, silent_count, terminator_left_by,
+    Body, ESCAPE, FIRST_TERMINATOR, Item, Profile, Terminator, past, read_item, silent_count,
+    terminator_left_by,
 };
 use raster_requests::Language;
 use std::marker::Model;

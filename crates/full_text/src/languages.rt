@@ -4,8 +4,8 @@ ghost use Rattle.escapes.specs.Escapes.{escape};
 ghost use Rattle.escapes.specs.Views.{said, all_of};
 ghost use Rattle.full_text.specs.Languages.{first_asked, entered_by, has_instructions_next, language_by, language_after};
 
-use crate::text::{ESCAPE, past};
 use escapes::{Step, first_step};
+use hpgl_text::{ESCAPE, past};
 use memchr::memchr;
 use raster_requests::{Language, Request};
 

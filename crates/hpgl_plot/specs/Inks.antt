@@ -3,6 +3,7 @@
 use Rattle.std.specs.Prelude.{ℕ, ◌+◌, ◌-◌, ◌*◌, ◌/◌, nat_eq, Bool, ◌&&◌, ◌||◌, Option, Some, None, unwrap_or, slice_index_or}
 use Rattle.carousel.specs.Carousels.{colour_of}
 use Rattle.plot_page.specs.declared.colour.Colour.{Colour}
+use Rattle.plot_page.specs.Colours.{is_white}
 use Rattle.plot_settings.specs.Colours.{black}
 use Rattle.hpgl_plot.specs.declared.state.State.{State}
 
@@ -29,9 +30,6 @@ pen_colour s = screened s.screen (own_colour s)
 -- areas are not screened
 abbrev pub unscreened : State → State
 unscreened s = record s { screen = None }
-
-abbrev pub is_white : Colour → Bool
-is_white c = nat_eq c.red 255 && (nat_eq c.green 255 && nat_eq c.blue 255)
 
 -- pen 0 draws nothing, nor does a white one if TR hides it
 abbrev pub draws_nothing : State → Bool

@@ -26,10 +26,3 @@ fn screened_part(level: u32, part: u8) -> u8
     let left = u64::from(255 - part) * u64::from(level);
     255u64.saturating_sub((left + HALF) / WHOLE) as u8
 }
-
-/// Whether a colour is white.
-pub fn is_white(colour: Colour) -> bool
-    ensures { result ≡ inks.is_white colour }
-{
-    colour.red == 255 && colour.green == 255 && colour.blue == 255
-}

@@ -4,7 +4,7 @@ ghost use Rattle.hpgl_text.specs.Seen.{body_shape};
 ghost use Rattle.hpgl_text.specs.Terminators.{named_terminator, named_with_mode, unprinted, text_ended_by};
 ghost use Rattle.hpgl_text.specs.Terminators.{begins_with_printing, begins_with_zero};
 
-use crate::bytes::{after, before, blank_count, count_through, text_before};
+use crate::bytes::{ESCAPE, after, before, blank_count, count_through, text_before};
 use crate::item::Body;
 use crate::reading::first_number;
 use exact::rounded;
@@ -42,7 +42,7 @@ pub fn label_end_of<'a>(text: &[u8]) -> Body<'a>
     match text {
         [] => Body::Bad,
         [b';', ..] => Body::Terminator(FIRST_TERMINATOR),
-        [0, ..] | [b'\n', ..] | [0x1b, ..] => Body::Bad,
+        [0, ..] | [b'\n', ..] | [ESCAPE, ..] => Body::Bad,
         [byte, ..] => Body::Terminator(unprinted_byte(*byte)),
     }
 }

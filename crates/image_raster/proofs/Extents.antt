@@ -19,7 +19,7 @@ use Rattle.stroke_raster.specs.Covers.{centre, in_window}
 use Rattle.stroke_raster.specs.Gap.{scaled, way}
 use Rattle.image_raster.specs.Dots.{across, along, corner, is_number, number_at, shown_at_pixel, shown_in, shown_on_way}
 use Rattle.image_raster.specs.declared.placed.PlacedImage.{PlacedImage}
-use Rattle.image_raster.specs.Ways.{away, count_of, goes_right, shown_turned}
+use Rattle.image_raster.specs.Ways.{away, goes_right, shown_turned}
 
 -- before the first row, or the first dot
 pub number_below : (density r : ℕ) (z : ℤ) → 0 < density → 0 < r → z <ℤ pos 0 → number_at density r z <ℤ pos 0
@@ -109,6 +109,13 @@ none_before turn.Half image r w d h less =
     no_row_below image (number_at image.settings.resolution r (across turn.Half w)) (number_at image.settings.resolution r (along turn.Half w)) (number_below image.settings.resolution r (neg_ℤ w.x) d h less)
 none_before turn.ThreeQuarters image r w d h less =
     no_dot_below image (number_at image.settings.resolution r (across turn.ThreeQuarters w)) (number_at image.settings.resolution r (along turn.ThreeQuarters w)) (number_below image.settings.resolution r w.x d h less)
+
+-- how many rows, or dots, lie along x, of so many rows
+abbrev pub count_of : Turn → Image → ℕ → ℕ
+count_of turn.None image rows = rows
+count_of turn.Quarter image rows = image.width
+count_of turn.Half image rows = rows
+count_of turn.ThreeQuarters image rows = image.width
 
 -- and past the last one
 pub none_past : (turn : Turn) (image : Image) (r : ℕ) (w : Vector) (rows : ℕ) → ((k : ℕ) → k < length image.numbers → get_or image.numbers k 0 < rows)

@@ -30,10 +30,3 @@ goes_right turn.ThreeQuarters = true
 -- how far along x a way leads in their direction
 abbrev pub away : Turn → ℤ → ℤ
 away turn x = if goes_right turn then x else neg_ℤ x
-
--- how many rows, or dots, lie along x, of so many rows
-abbrev pub count_of : Turn → Image → ℕ → ℕ
-count_of turn.None image rows = rows
-count_of turn.Quarter image rows = image.width
-count_of turn.Half image rows = rows
-count_of turn.ThreeQuarters image rows = image.width

@@ -1,4 +1,5 @@
--- What a reader must believe: how many pixels a page has, sets of pens, and the strokes that are painted.
+-- What a reader must believe: which colour is white, how many pixels a page has, sets of pens, and the strokes that are painted.
+pub mod Colours
 pub mod Resolutions
 pub mod Pens
 pub mod Segments

@@ -7,7 +7,7 @@ use Rattle.areas.specs.Shapes.{Shape, ShapeList, shapes}
 use Rattle.hpgl_plot.specs.declared.note.Note.{Note}
 use Rattle.hpgl_plot.specs.declared.note.NoteKind.{NoteKind}
 use Rattle.hpgl_plot.specs.declared.note.NoteKind.TheVariants.{Skipped, Bad, Stray, Axis, Open}
-use Rattle.plot_report.specs.declared.lines.TheConstants.{ESCAPE}
+use Rattle.hpgl_text.specs.Bytes.{escape}
 use Rattle.plot_report.specs.declared.report_page.ReportPage.{ReportPage}
 use Rattle.plot_report.specs.declared.summary.StrokeSummary.{StrokeSummary}
 use Rattle.plot_report.specs.Report.{all_edges, area_line, areas_among, areas_line, edges_line, full_report_of, kind_words, letters, line, note_line, page_line, pen_line, pen_lines, pen_shape_lines, report_of, shape_lines, shapes_of, sheets_line, space, strokes_among, strokes_line, strokes_of, summary_line, summary_of}
@@ -108,7 +108,7 @@ few_of_two true x y h k = h
 few_of_two false x y h k = k
 
 letters_few : (code : List ℕ) → length code ≡ 2 → length (letters code) ≤ 3
-letters_few code two = few_of_two (get_or code 0 0 == ESCAPE) (codes "ESC") code (lit≤ tt) (omega (arith, two))
+letters_few code two = few_of_two (get_or code 0 0 == escape) (codes "ESC") code (lit≤ tt) (omega (arith, two))
 
 kind_few : (at : ℕ) (kind : NoteKind) (code : List ℕ) → length code ≡ 2 → length (line (codes "note" ∷ decimal at ∷ kind_words kind code)) ≤ 1000
 kind_few at Skipped code two = line_few (codes "note" ∷ decimal at ∷ codes "skipped" ∷ letters code ∷ []) (lit≤ tt, (decimal_few at, (lit≤ tt, (omega (arith, letters_few code two), tt)))) (lit≤ tt)

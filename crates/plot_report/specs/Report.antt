@@ -7,7 +7,7 @@ use Rattle.std.specs.Int.{int_max, int_min}
 use Rattle.plot_page.specs.declared.page.Page.{Page}
 use Rattle.plot_page.specs.Segments.{Segment}
 use Rattle.areas.specs.Shapes.{Shape, ShapeList, shapes}
-use Rattle.plot_report.specs.declared.lines.TheConstants.{ESCAPE}
+use Rattle.hpgl_text.specs.Bytes.{escape}
 use Rattle.plot_report.specs.declared.report_page.ReportPage.{ReportPage}
 use Rattle.plot_report.specs.declared.summary.StrokeSummary.{StrokeSummary}
 use Rattle.hpgl_plot.specs.declared.note.Note.{Note}
@@ -99,7 +99,7 @@ pen_lines strokes = flat_map (λ pen. pen_line pen (strokes_of pen strokes)) (ra
 
 -- the letters of an instruction, or those that an escape has in notes
 abbrev pub letters : List ℕ → List ℕ
-letters code = if slice_index code 0 == ESCAPE then codes "ESC" else code
+letters code = if slice_index code 0 == escape then codes "ESC" else code
 
 -- what is noted: on the instruction with these two letters, on an escape, or on a stray byte
 abbrev pub kind_words : NoteKind → List ℕ → List (List ℕ)

@@ -10,10 +10,8 @@ use crate::summary::StrokeSummary;
 use crate::words::{put_number, put_word};
 use devices::Sink;
 use hpgl_plot::{Note, NoteKind};
+use hpgl_text::ESCAPE;
 use pieces::Text;
-
-/// The first byte of the code of an escape.
-pub const ESCAPE: u8 = 0x1b;
 
 // `page W H left below`
 pub(crate) fn put_page_line<K: Sink>(text: &mut Text<'_, K>, page: ReportPage)

@@ -5,10 +5,9 @@ ghost use Rattle.page_fit.specs.Around.{checked, sides_of};
 ghost use Rattle.plot_size.specs.Measures.{sides_measured};
 ghost use Rattle.plot_size.specs.Sizes.{longest_side, resized, sides_asked, sides_of_item};
 
-use crate::bytes::after;
 use crate::measures::measures_in;
 use full_text::PlotItems;
-use hpgl_text::{Item, Profile};
+use hpgl_text::{Item, Profile, after};
 use page_fit::are_sides;
 use plot_page::{LONGEST_ROLL, LONGEST_SIDE, Page};
 

@@ -2,7 +2,6 @@
 #![tactic(auto)]
 
 mod asked;
-mod bytes;
 mod measures;
 
 pub use asked::{longest_side, page_asked};

@@ -7,8 +7,7 @@ ghost use Rattle.hpgl_text.specs.Numbers.{past_numbers, past_separators};
 ghost use Rattle.plot_size.specs.Measures.{measured, with_units};
 ghost use Rattle.plot_size.specs.Sizes.{units};
 
-use crate::bytes::{after, is_at_end, separator_count};
-use hpgl_text::{Number, read_number};
+use hpgl_text::{Number, after, is_at_end, read_number, separator_count};
 
 /// The first two numbers that a text begins with up to the end of an instruction, in plotter units; the
 /// second one need not be there. `None` if there are none, or another byte comes before the end.

@@ -1,6 +1,7 @@
 -- The dots of an image that is done.
 use Rattle.std.specs.Prelude.{ℕ, ◌*◌, nat_lt, ◌==◌, Bool, ◌&&◌, ◌||◌, not, drop, Option, Some, None, option_map, if◌then◌else◌}
 use Rattle.plot_page.specs.declared.colour.Colour.{Colour}
+use Rattle.plot_page.specs.Colours.{is_white}
 use Rattle.image_colours.specs.Counts.{plane_count}
 use Rattle.image_colours.specs.Dots.{colour_of}
 use Rattle.raster_graphics.specs.declared.image.Image.{Image}
@@ -17,9 +18,6 @@ colour_at image row column =
     if nat_lt column image.width
     then option_map (λ position. colour_in image position column) (position_of row image.numbers)
     else None
-
-abbrev pub is_white : Colour → Bool
-is_white colour = (colour.red == 255) && (colour.green == 255) && (colour.blue == 255)
 
 -- the colour that an image shows there: white only if it is opaque
 abbrev pub if_shown : Bool → Option Colour → Option Colour

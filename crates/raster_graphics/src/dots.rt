@@ -1,7 +1,7 @@
 //! The dots of an image that is done.
 ghost use Rattle.std.specs.Prelude.{◌≡◌, ◌^◌, ◌<◌, Some};
 ghost use Rattle.raster_graphics.specs.Laws.{RowsAscend};
-ghost use Rattle.raster_graphics.specs.Dots.{colour_in, colour_at, is_white, if_shown, shown_at};
+ghost use Rattle.raster_graphics.specs.Dots.{colour_in, colour_at, if_shown, shown_at};
 
 use crate::image::Image;
 use image_colours::{Colour, colour_of};
@@ -43,7 +43,7 @@ impl Image {
     fn if_shown(&self, colour: Colour) -> Option<Colour>
         ensures { result ≡ if_shown self.now.settings.is_opaque (Some colour) }
     {
-        if self.settings.is_opaque || !is_white(colour) {
+        if self.settings.is_opaque || !colour.is_white() {
             Some(colour)
         } else {
             None
@@ -69,10 +69,4 @@ impl Image {
         ];
         colour_of(coding, &self.settings.palette, &planes, column)
     }
-}
-
-fn is_white(colour: Colour) -> bool
-    ensures { result ≡ is_white colour }
-{
-    colour.red == 255 && colour.green == 255 && colour.blue == 255
 }

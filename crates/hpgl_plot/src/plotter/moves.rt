@@ -11,7 +11,7 @@ ghost use Rattle.hpgl_plot.specs.Inks.{draws_nothing, own_colour, pen_colour, un
 ghost use Rattle.hpgl_plot.specs.Strokes.{by_a_pen, drawn, pen_width, stroke};
 ghost use Rattle.plot_settings.specs.Meanings.{Touch, Move, Go};
 
-use crate::inks::{is_white, screened};
+use crate::inks::screened;
 use crate::place::{coordinates_at, is_place_in_range, place_on, target_of};
 use crate::plotter::{Plotter, Stop};
 use crate::state::Position;
@@ -289,7 +289,7 @@ impl Plotter {
         if self.state.pen == 0 {
             return true;
         }
-        self.state.hides_white && is_white(self.colour_of(self.state.pen))
+        self.state.hides_white && self.colour_of(self.state.pen).is_white()
     }
 
     /// The same of an area, which is not screened.
@@ -299,7 +299,7 @@ impl Plotter {
         if self.state.pen == 0 {
             return true;
         }
-        self.state.hides_white && is_white(self.own_colour(self.state.pen))
+        self.state.hides_white && self.own_colour(self.state.pen).is_white()
     }
 
     /// The stroke that the pen draws between two places, or pen 1 if none is selected.

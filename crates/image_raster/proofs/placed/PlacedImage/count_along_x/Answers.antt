@@ -1,7 +1,6 @@
 use Rattle.std.proofs.Common.{ap}
 use Rattle.directions.specs.declared.turn.Turn.{Turn}
-use Rattle.image_raster.specs.Ways.{count_of}
-use Rattle.image_raster.proofs.Extents.{rows_past}
+use Rattle.image_raster.proofs.Extents.{count_of, rows_past}
 use Rattle.image_raster.proofs.placed.PlacedImage.count_along_x.Goals as goal
 
 pub returns-in-None : goal.returns-in-None
