@@ -12,7 +12,7 @@ from reference.geometry import Page
 from reference.plotter import FARTHEST_END, Refused
 from reference.random_full_plots import FullWriter
 from reference.random_plots import random_case
-from reference.shapes import is_area, strokes_of
+from reference.shapes import is_area, is_image, strokes_of
 from shared import assert_nothing
 
 CORE_PLOTS, FULL_PLOTS, PARTS = 2000, 1200, 4
@@ -150,8 +150,9 @@ def test_shapes_are_in_range(part):
             continue
         drawings += len(got[0]) > 5
         sheets = {shape.sheet for shape in got[0]}
-        for stroke in (stroke for shape in got[0] for stroke in strokes_of(shape)):
-            if max(map(abs, (*stroke.a, *stroke.b))) > FARTHEST_END or not 0 <= stroke.width <= WIDEST or not stroke.pen:
+        for shape, stroke in ((shape, stroke) for shape in got[0] for stroke in strokes_of(shape)):
+            is_drawn = is_image(shape) or stroke.pen
+            if max(map(abs, (*stroke.a, *stroke.b))) > FARTHEST_END or not 0 <= stroke.width <= WIDEST or not is_drawn:
                 wrong.append(f"seed {seed}: {stroke}")
         for area in filter(is_area, got[0]):
             areas += 1

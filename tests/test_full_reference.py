@@ -48,12 +48,12 @@ def options_of(keys):
     return {name: value for name, value in options.items() if (name, value) != ("profile", "core")}
 
 
-def drawn(plot, options, has_images=False):
+def drawn(plot, options):
     """What a plot draws, which may have images; of a refusal its text."""
     page = Page(*(int(options.get(name, 0)) for name in ("width", "height", "left", "below")))
     sheet = int(options.get("sheet", 1)) if options.get("profile") == "full" else None
     try:
-        return draw(plot, page, sheet, characters=options.get("characters"), has_images=has_images)
+        return draw(plot, page, sheet, characters=options.get("characters"))
     except Refused as refusal:
         return str(refusal)
 
@@ -110,11 +110,11 @@ def strokes_of(keys):
     return listed
 
 
-def differences(keys, has_images=False):
+def differences(keys):
     """What is not as a row says, whose plot may have images."""
     options = options_of(keys)
     plot = plot_of(keys["plot"][0])
-    got = drawn(plot, options, has_images)
+    got = drawn(plot, options)
     if "refused" in keys or isinstance(got, str):
         rule, _, at = keys.get("refused", [""])[0].partition(" at ")
         if rule == OF_PICTURES:
@@ -122,11 +122,11 @@ def differences(keys, has_images=False):
         wanted = {"refusal": messages.text(REFUSALS[rule], at) if rule in REFUSALS else "nothing is refused"}
         found = {"refusal": got if isinstance(got, str) else "nothing is refused"}
     else:
-        wanted, found = wanted_of(keys, options), found_of(keys, got, answer("report", options, plot, has_images))
+        wanted, found = wanted_of(keys, options), found_of(keys, got, answer("report", options, plot))
         if "pixels" in keys:
-            found["pixels"] = answer("marks", marks_case(keys), plot, has_images).output.decode().splitlines()
+            found["pixels"] = answer("marks", marks_case(keys), plot).output.decode().splitlines()
         if "black" in keys:
-            found["black"] = blacks_in(answer("pbm", marks_case(keys), plot, has_images).output)
+            found["black"] = blacks_in(answer("pbm", marks_case(keys), plot).output)
     for name in wanted:
         if wanted[name] != found[name]:
             yield f"{name}: {found[name]} instead of {wanted[name]}"
@@ -203,7 +203,7 @@ def test_examples(name, keys):
 
 @pytest.mark.parametrize("name, keys", rows(IMAGE_ROWS), ids=[name.replace(" ", "_") for name, _ in rows(IMAGE_ROWS)])
 def test_examples_of_images(name, keys):
-    assert_nothing(f"{name}: {difference}" for difference in differences(keys, has_images=True))
+    assert_nothing(f"{name}: {difference}" for difference in differences(keys))
 
 
 def test_number_of_examples():

@@ -19,37 +19,35 @@ from .full_settings import (
     CROSS_HATCHING, HATCHING, MOST_TICKS, SHADING, SOLID, TICKS_OF_A_GRAIN, WIDEST, FullSettings,
 )
 from .geometry import sign, turned, turned_about, turns, whole_page
-from .images import COMMANDS, Rtl, form_of
+from .images import Rtl, form_of
 from .labels import rows_of
 from .plotter import FARTHEST_END, LONGEST_PLOT, MOST_STROKES, USUAL_WIDTH, Bad, Refused, Stroke, listed, whole
 from .polygons import Buffer
 from .shapes import Area
 
-DATA_OF_IMAGES = [("*b", "V"), ("*b", "W")]
-# Commands whose numbers are judged if images are not drawn.
-IN_RANGES = [("&u", "D"), ("*t", "R"), ("*r", "U"), ("*r", "A"), ("*v", "N"), ("*b", "M")]
 BAD_IN_POLYGONS = "EA ER LB PB CP UC XT YT EP FP RA RR EW WG".split()
 # The number that puts the pen of a character down, or, below 0, up; and how far a point of one may be, in millionths.
 PEN_OF_CHARACTERS, FARTHEST_POINT = 99 * MILLION, 2**53
 TICKS_OF_A_UNIT = 16 * TICKS_OF_A_GRAIN
 
 
-def draw(plot, page, carousel=EMPTY, most=MOST_STROKES, characters=None, has_images=False):
+def draw(plot, page, carousel=EMPTY, most=MOST_STROKES, characters=None):
     """The shapes of all sheets and the notes of a plot; it is refused if it has more strokes and edges than most."""
-    plotter = after(plot, page, carousel, most, characters, has_images)
+    plotter = after(plot, page, carousel, most, characters)
     return plotter.shapes_drawn(), plotter.notes
 
 
-def after(plot, page, carousel=EMPTY, most=MOST_STROKES, characters=None, has_images=False):
-    """The plotter after a plot, whose images may be drawn."""
+def after(plot, page, carousel=EMPTY, most=MOST_STROKES, characters=None):
+    """The plotter after a plot. The image that is open after its last item closes at its end."""
     if len(plot) > LONGEST_PLOT:
         raise Refused(messages.text("too-long"))
     plotter = FullPlotter(page, carousel, most)
-    plotter.characters, plotter.draws_images = characters, has_images
+    plotter.characters = characters
     for item in items(plot):
         plotter.obey(item)
         if plotter.has_too_much():
             raise Refused(messages.text("too-many-strokes", item.at))
+    plotter.rtl.at = len(plot)
     plotter.rtl.close()
     return plotter
 
@@ -80,7 +78,6 @@ class FullPlotter(FullSettings):
         self.sum = 0  # of strokes, and of what counts as strokes: edges of areas, places that are filled or edged, and texts of PB
         self.labels, self.label = [], None  # the lines of each label that has strokes, and which one is written now
         self.rtl = Rtl(whole_page(page), self.add_image)
-        self.draws_images, self.has_image = False, False
         super().__init__(page, carousel)
 
     def shapes_drawn(self):
@@ -103,10 +100,9 @@ class FullPlotter(FullSettings):
             self.draw_in_part(item)
         elif item.kind == "escape":
             self.escape(item.has)
-        elif item.kind == "page" and self.draws_images:
-            self.end_page()
         elif item.kind == "page":
-            self.PG([])
+            self.rtl.at = self.at
+            self.end_page()
         elif item.kind != "known":
             super().obey(item)
 
@@ -126,7 +122,7 @@ class FullPlotter(FullSettings):
     def escape(self, commands):
         """Does what the commands of an escape ask for, with one note at most."""
         self.rtl.at = self.at
-        notes = [self.command(command) if self.draws_images else self.pass_over(command) for command in commands]
+        notes = [self.command(command) for command in commands]
         for kind in ("bad", "skipped"):
             if kind in notes:
                 self.note(self.at, kind, "ESC")
@@ -148,16 +144,6 @@ class FullPlotter(FullSettings):
         elif not form:
             return self.rtl.obey(command)
         return None
-
-    def pass_over(self, command):
-        """What is noted on a command while images are not drawn: the first data of one, and what is so without images."""
-        key = command.group, command.letter
-        if key in DATA_OF_IMAGES:
-            is_first, self.has_image = not self.has_image, True
-            return "skipped" if is_first else None
-        if key == ("&l", "H") and command.rounded() == 0:
-            self.PG([])
-        return Rtl(self.window, None).obey(command) if key in IN_RANGES or key not in COMMANDS else None
 
     def end_page(self):
         """Ends the sheet between images."""

@@ -128,6 +128,14 @@ class Image(NamedTuple):
         colour = self.coding.colour(self.rows[row], dot)
         return Dot(0, colour) if self.is_opaque or colour != WHITE else None
 
+    def dots_shown(self):
+        """The dots that are shown, row by row, each with its row, its place in the row, and its colour."""
+        for number, row in enumerate(self.rows):
+            for dot in range(self.width if row is not None else 0):
+                colour = self.coding.colour(row, dot)
+                if self.is_opaque or colour != WHITE:
+                    yield number, dot, tuple(colour)
+
     def far_corner(self):
         """The corner after the last dot, rounded outwards."""
         far, wide = (-(-count * INCH // self.per_inch) for count in (len(self.rows), self.width))
@@ -165,6 +173,7 @@ class Rtl:
         self.bits = 0  # how many bits all planes have
         self.open = None
         self.place = (0, 0)
+        self.at = 0  # which item of the plot is obeyed
         self.reset()
 
     def reset(self):
@@ -286,7 +295,7 @@ class Rtl:
         if image is None:
             return
         settings = image.settings or self.fixed()
-        self.place = self.row_begin(image.corner, len(image.rows), settings)
+        self.place = self.near(self.row_begin(image.corner, len(image.rows), settings))
         whole = self.image_of(image, settings)
         if whole:
             self.add(whole)
@@ -370,7 +379,6 @@ class Rtl:
         self.seeds = []
         if self.open:
             settings = self.open.settings or self.fixed()
-            self.open.settings = settings
             left = count if settings.height is None else max(0, min(count, settings.height - len(self.open.rows)))
             self.near(self.row_begin(self.open.corner, len(self.open.rows) + left, settings))
             self.open.rows += [None] * left

@@ -43,7 +43,7 @@ def fault(status, text):
     return Answer(status, b"", f"plotraster: {text}\n")
 
 
-def answer(command, options, plot, has_images=False):
+def answer(command, options, plot):
     """What the program answers; the plot may have images."""
     try:
         request = request_of(command, options)
@@ -52,7 +52,7 @@ def answer(command, options, plot, has_images=False):
     if request.form == "pcl" and request.dots not in DOTS_OF_PCL:
         return fault(2, messages.text("resolution"))
     try:
-        shown = shown_by(request, plot, has_images)
+        shown = shown_by(request, plot)
     except Refused as refusal:
         return fault(refusal.status, refusal)
     if request.form == "report":
@@ -71,11 +71,11 @@ class Drawing(NamedTuple):
     labels: list = ()
 
 
-def draw(plot, page, sheet, carousel=EMPTY, characters=None, has_images=False):
+def draw(plot, page, sheet, carousel=EMPTY, characters=None):
     """What a plot draws in the profile core, if there is no sheet, or in full; those of all sheets are 0's."""
     if sheet is None:
         return Drawing(*plotter.draw(plot, page, carousel))
-    plotted = full_plotter.after(plot, page, carousel, characters=characters, has_images=has_images)
+    plotted = full_plotter.after(plot, page, carousel, characters=characters)
     shapes = plotted.shapes_drawn()
     sheets = max((shape.sheet for shape in shapes), default=0)
     shapes = [shape for shape in shapes if sheet in (0, EACH, shape.sheet)]
@@ -94,13 +94,13 @@ class Shown(NamedTuple):
     lines: int
 
 
-def shown_by(request, plot, has_images=False):
+def shown_by(request, plot):
     """What a request shows of a plot."""
     page, why = request.page, None
     if request.is_page_asked:
         asked = asked_page(plot, request)
         page, why = asked or page, None if asked else "no-size"
-    drawing = draw(plot, page, request.sheet, request.carousel, request.characters, has_images)
+    drawing = draw(plot, page, request.sheet, request.carousel, request.characters)
     shapes, lines = drawing.shapes, len(drawing.shapes)
     if request.form != "report":
         shapes = [shape for shape in shapes if shape.pen in request.pens or is_image(shape)]
@@ -220,8 +220,9 @@ def picture_of(request, shown, shapes):
 
 def document_of(request, shown, shapes):
     """What a document of shapes on the page that is shown has: in PDF pages, and in SVG groups and in DXF layers if there is more
-    than a sheet by itself."""
+    than a sheet by itself. Only SVG has images."""
     is_pdf, is_whole = request.form == "pdf", request.sheet == 0
+    shapes = [it for it in shapes if request.form == "svg" or not is_image(it)]
     numbers = range(1, max(1, shown.drawing.sheets if is_whole else 1) + 1)
     sheets = [[it for it in shapes if not is_whole or it.sheet == number] for number in numbers]
     are_numbered = is_pdf or is_whole and shown.drawing.has_ends

@@ -1,17 +1,20 @@
 """A reader of SVG documents, by SVG 1.1: what a document shows, or why it is none.
 
 It knows what plotraster may write: a page in millimetres, clip paths of one rectangle, groups of sheets, groups of labels with
-their texts as titles, paths of lines from place to place, and paths that are filled, of the edges of an area.
+their texts as titles, paths of lines from place to place, paths that are filled, of the edges of an area, and images, each of
+PNGs under a matrix in a window.
 """
 
+import base64
 import re
 from fractions import Fraction
 from xml.etree import ElementTree
 
 from .fills import BY_ODD_COUNTS, BY_WINDING
 from .labels import Group
+from .png import read_part
 from .reading import Wrong, must
-from .vectors import LEAST_WIDTH, MOST_IN_A_PATH, Document, Line, FilledPath
+from .vectors import LEAST_WIDTH, MOST_IN_A_PATH, Document, Line, FilledPath, Picture
 
 DECLARATION = b'<?xml version="1.0" encoding="UTF-8"?>\n'
 SPACE = "{http://www.w3.org/2000/svg}"
@@ -26,6 +29,11 @@ PATH = re.compile(f"M{WHOLE} {WHOLE}{LINES}(?:[Mm]{WHOLE} {WHOLE}{LINES})*")
 TITLE = re.compile(rb"<g><title>((?:[^<>&]|&amp;|&lt;|&gt;)+)</title>\n")
 ROUND = {"fill": "none", "stroke-linecap": "round", "stroke-linejoin": "round"}
 UNITS_OF_A_MILLIMETRE = 40
+INCH = 16256
+LINK = "{http://www.w3.org/1999/xlink}href"
+DATA = "data:image/png;base64,"
+SIZE = "0|-?[1-9][0-9]*e-9"
+MATRIX = re.compile(rf"matrix\(({SIZE}) ({SIZE}) ({SIZE}) ({SIZE}) ({WHOLE}) ({WHOLE})\)")
 
 
 def read_svg(data):
@@ -114,6 +122,9 @@ def things_of(sheet, number, clips, used, top):
     shapes, labels = [], []
     for element in sheet:
         first, paths = len(shapes), [element]
+        if element.tag == f"{SPACE}svg":
+            shapes.append(image_of(element, top))
+            continue
         if element.tag == f"{SPACE}g":
             attributes(element, "g")
             must(len(element) > 1, "a label without lines")
@@ -145,6 +156,41 @@ def shapes_of(path, clips, used, top):
         return [FilledPath(pen, colour, rule_of(found), window, ends)]
     must(len(ends) <= MOST_IN_A_PATH, f"{len(ends)} lines in a path")
     return [Line(pen, colour, width, window, *line) for line in ends]
+
+
+def image_of(view, top):
+    """An image: what its PNGs show, where its matrix puts it, in its window."""
+    *numbers, box = attributes(view, "svg", "x", "y", "width", "height", "viewBox")
+    must(all(re.fullmatch(WHOLE, it) for it in numbers) and box == " ".join(numbers), f"a view of {numbers} in {box}")
+    x, y, width, height = map(int, numbers)
+    group = only_child(view, "g")
+    text, = attributes(group, "g", "transform")
+    found = MATRIX.fullmatch(text)
+    must(found, f"the matrix {text}")
+    sizes = [int(it.removesuffix("e-9")) for it in found.groups()[:4]]
+    along, across = ((sign(it[0]), -sign(it[1])) for it in (sizes[:2], sizes[2:]))
+    size, = {abs(it) for it in sizes} - {0}
+    per_inch = round(INCH * 10**9 / size)
+    must(size == (2 * INCH * 10**9 + per_inch) // (2 * per_inch), f"dots of {size} billionths of a grain")
+    dots = [dot for part in group for dot in dots_of(part)]
+    window = x, top - y - height, x + width, top - y
+    return Picture(window, (int(found[5]), top - int(found[6])), across, along, per_inch, tuple(sorted(dots)))
+
+
+def sign(number):
+    return (number > 0) - (number < 0)
+
+
+def dots_of(part):
+    """The dots that a part of an image shows."""
+    *numbers, aspect, rendering, data = attributes(
+        part, "image", "x", "y", "width", "height", "preserveAspectRatio", "image-rendering", LINK)
+    must((aspect, rendering) == ("none", "pixelated") and data.startswith(DATA), f"an image of {data[:40]}")
+    must(all(re.fullmatch(COUNT, it) for it in numbers), f"an image at {numbers}")
+    x, y, width, height = map(int, numbers)
+    *sides, colours = read_part(base64.b64decode(data.removeprefix(DATA), validate=True))
+    must(sides == [width, height], f"a PNG of {sides} as {width} by {height}")
+    return [(y + at // width, x + at % width, tuple(colour)) for at, colour in enumerate(colours) if colour is not None]
 
 
 def rule_of(path):

@@ -1,11 +1,12 @@
-"""Documents of lines and areas, PDF and SVG: what one shows, in the same form for what a plot draws and for what a document has."""
+"""Documents of lines, areas and images, PDF and SVG: what one shows, in the same form for what a plot draws and for what a
+document has."""
 
 from itertools import groupby
 from typing import NamedTuple
 
 from .fills import BY_ODD_COUNTS
 from .geometry import whole_page
-from .shapes import is_area
+from .shapes import is_area, is_image
 
 LEAST_WIDTH = 24
 MOST_IN_A_PATH = 1000
@@ -31,6 +32,19 @@ class FilledPath(NamedTuple):
     rule: int
     window: tuple
     edges: tuple
+
+
+class Picture(NamedTuple):
+    """An image as an SVG shows it: the window that cuts it, its corner in grains, where its next row and where the next dot of a
+    row lie, how many dots it has to the inch, and the dots that are shown, each with its row, its place in the row, and its
+    colour."""
+
+    window: tuple
+    corner: tuple
+    across: tuple
+    along: tuple
+    per_inch: int
+    dots: tuple
 
 
 class Document(NamedTuple):
@@ -63,8 +77,11 @@ class Document(NamedTuple):
 
 
 def spelled(shape):
-    """A line or an area as text."""
+    """A line, an area or an image as text."""
     window = "" if shape.window is None else " in {} {} {} {}".format(*shape.window)
+    if isinstance(shape, Picture):
+        dots = "".join(f" {row}:{dot}:{bytes(colour).hex()}" for row, dot, colour in shape.dots)
+        return f"image{window} at {shape.corner} by {shape.across} and {shape.along} of {shape.per_inch}{dots}"
     look = f"pen {shape.pen} {bytes(shape.colour).hex()}"
     if isinstance(shape, Line):
         return f"{look} width {shape.width}{window}" + between(shape.a, shape.b)
@@ -99,6 +116,8 @@ def holds_a_place(window):
 
 def shape_of(shape, page):
     window = None if shape.window == whole_page(page) else shape.window
+    if is_image(shape):
+        return Picture(shape.window, shape.corner, shape.across, shape.along, shape.per_inch, tuple(shape.dots_shown()))
     if is_area(shape):
         return FilledPath(shape.pen, shape.colour, shape.rule, window, shape.edges)
     return Line(shape.pen, shape.colour, max(LEAST_WIDTH, shape.width), window, shape.a, shape.b)

@@ -19,16 +19,19 @@ use Rattle.conversion.specs.Faults.{of_plot}
 use Rattle.conversion.specs.Kinds.{HasDrawnFor, HasDrawnTurned}
 use Rattle.picture_job.specs.declared.picture.Picture.{Picture}
 use Rattle.picture_job.specs.declared.picture.Picture.TheVariants.{Rows}
-use Rattle.rows.specs.Pictures.{Reach, end_of, head_of, picture_of, shapes_row}
+use Rattle.rows.specs.Pictures.{Reach, end_of, head_of, picture_of}
+use Rattle.rows.specs.ImagePictures.{contents_row}
 use Rattle.conversion.specs.Placements.{IsDrawnOn, IsPlaced, IsPlacedBy, Place, no_corner, page_reported, place_on, placed_rules}
-use Rattle.areas.specs.Shapes.{ShapeList, stroke_count}
+use Rattle.areas.specs.Shapes.{stroke_count}
+use Rattle.rows.specs.Contents.{ContentList}
+use Rattle.hpgl_plot.specs.declared.note.NoteKind.{NoteKind}
 use Rattle.rows.specs.Progress.{HasPainted, IsWhole}
 use Rattle.conversion.specs.Readings.{WasRead}
 use Rattle.conversion.specs.Reports.{HasReportedAs, HasReportedOn, Reports, WritesReport, report_by, report_drawn, report_on}
 use Rattle.plot_report.specs.Report.{report_page}
 use Rattle.std.specs.Io.KnownBytes.{Appends, Consumes}
-use Rattle.conversion.specs.Rules.{Rules, core_rules, rules_in, rules_of, rules_with, shapes_by}
-use Rattle.conversion.specs.Sheets.{PaintsShapes, WritesShapes, shapes_on}
+use Rattle.conversion.specs.Rules.{Rules, core_rules, rules_in, rules_of, rules_with, contents_by}
+use Rattle.conversion.specs.Sheets.{PaintsShapes, WritesShapes, contents_on}
 use Rattle.carousel.specs.Carousels.{empty}
 use Rattle.directions.specs.declared.turn.Turn.{Turn}
 use Rattle.directions.specs.declared.turn.Turn.TheVariants as turns
@@ -95,14 +98,15 @@ not_drawn rules c pens given input before after (plot.OffRange at) read h = (h.0
 not_drawn rules c pens given input before after (plot.TooManyStrokes at) read h = (h.0, h.1, record { read = read; refused = h.2 })
 
 -- reports of the same shapes, sheets and plot are the same
-pub same_report : (reading : Reading) (page page' : ReportPage) (ss ss' : ShapeList) (n n' : ℕ) (plot plot' : List ℕ) → page ≡ page' → ss ≡ ss' → n ≡ n' → plot ≡ plot'
-    → report_on reading page ss n plot ≡ report_on reading page' ss' n' plot'
-same_report reading page page' ss ss' n n' plot plot' named shapes sheets text = rw (named, shapes, sheets, text) refl
+pub same_report : (reading : Reading) (page page' : ReportPage) (ss ss' : ContentList) (n n' : ℕ) (told told' : List (Option NoteKind)) (plot plot' : List ℕ)
+    → page ≡ page' → ss ≡ ss' → n ≡ n' → told ≡ told' → plot ≡ plot' → report_on reading page ss n told plot ≡ report_on reading page' ss' n' told' plot'
+same_report reading page page' ss ss' n n' told told' plot plot' named contents sheets notes text = rw (named, contents, sheets, notes, text) refl
 
--- all shapes of a drawing are those of its plot
-shapes_drawn : (rules : Rules) (pens : PenSet) (input : List ℕ) (drawing : Drawing) → AreLinesOf (placed_rules rules pens (place_of drawing)) drawing.page input drawing.lines
-    → shapes_on drawing 0 ≡ shapes_by (placed_rules rules pens (place_of drawing)) drawing.page input
-shapes_drawn rules pens input drawing are = λ i. record { strokes = are.strokes_are i; areas = are.areas_are i }
+-- all that is on a drawing is of its plot
+contents_drawn : (rules : Rules) (pens : PenSet) (input : List ℕ) (drawing : Drawing) → AreLinesOf (placed_rules rules pens (place_of drawing)) drawing.page input drawing.lines
+    → contents_on drawing 0 ≡ contents_by (placed_rules rules pens (place_of drawing)) drawing.page input
+contents_drawn rules pens input drawing are =
+    λ i. record { shapes = record { strokes = are.strokes_are i; areas = are.areas_are i }; images = are.images_are i }
 
 -- the picture of all shapes of a drawing, which is not smoothed
 module _ (rules : Rules) (chosen : RowChoice) (job : Job) (reaches : Reach) (input : List ℕ) (before after : SourceState) (sink sink' : SinkState) (drawing : Drawing)
@@ -116,28 +120,28 @@ module _ (rules : Rules) (chosen : RowChoice) (job : Job) (reaches : Reach) (inp
   accepted : rules.refusal job.page input ≡ None
   accepted = subst (λ (place : Place). rules.refusal place.drawn_on input ≡ None) lies drawn.lines.accepted
 
-  shapes_given : shapes_on drawing 0 ≡ shapes_by rules job.page input
-  shapes_given = shapes_drawn rules job.pens input drawing drawn.lines ∙ ap (λ (place : Place). shapes_by (placed_rules rules job.pens place) place.page input) lies
+  contents_given : contents_on drawing 0 ≡ contents_by rules job.page input
+  contents_given = contents_drawn rules job.pens input drawing drawn.lines ∙ ap (λ (place : Place). contents_by (placed_rules rules job.pens place) place.page input) lies
 
-  painted : (shapes : ShapeList) (answer : Result ℕ PictureFault) → shapes ≡ shapes_by rules job.page input
-      → HasPainted (times_on given_choice drawing.page job chosen.smoothing) chosen.most_rows (on_page given_choice drawing.page job) reaches shapes sink sink' answer
-      → HasPainted 1 None job reaches (shapes_by rules job.page input) sink sink' answer
-  painted shapes answer are h =
+  painted : (contents : ContentList) (answer : Result ℕ PictureFault) → contents ≡ contents_by rules job.page input
+      → HasPainted (times_on given_choice drawing.page job chosen.smoothing) chosen.most_rows (on_page given_choice drawing.page job) reaches contents sink sink' answer
+      → HasPainted 1 None job reaches (contents_by rules job.page input) sink sink' answer
+  painted contents answer are h =
       let n = chosen.smoothing.times in
-      let there = subst (λ (page : Page). HasPainted n chosen.most_rows (on_page given_choice page job) reaches shapes sink sink' answer) here h in
-      let all = subst (λ (most : Option ℕ). HasPainted n most job reaches shapes sink sink' answer) whole there in
-      subst (λ (k : ℕ). HasPainted k None job reaches (shapes_by rules job.page input) sink sink' answer) once
-      (subst (λ (ss : ShapeList). HasPainted n None job reaches ss sink sink' answer) are all)
+      let there = subst (λ (page : Page). HasPainted n chosen.most_rows (on_page given_choice page job) reaches contents sink sink' answer) here h in
+      let all = subst (λ (most : Option ℕ). HasPainted n most job reaches contents sink sink' answer) whole there in
+      subst (λ (k : ℕ). HasPainted k None job reaches (contents_by rules job.page input) sink sink' answer) once
+      (subst (λ (ss : ContentList). HasPainted n None job reaches ss sink sink' answer) are all)
 
-  painting_converted : (shapes : ShapeList) (answer : Result Outcome Fault) → shapes ≡ shapes_by rules job.page input → has_too_many_pixels job.page job.dots ≡ false
-      → PaintsShapes given_choice chosen job drawing shapes reaches sink sink' answer → Converts rules 1 job reaches input before after sink sink' (done_of answer)
-  painting_converted shapes (Err fault) are few h =
+  painting_converted : (contents : ContentList) (answer : Result Outcome Fault) → contents ≡ contents_by rules job.page input → has_too_many_pixels job.page job.dots ≡ false
+      → PaintsShapes given_choice chosen job drawing contents reaches sink sink' answer → Converts rules 1 job reaches input before after sink sink' (done_of answer)
+  painting_converted contents (Err fault) are few h =
       subst (λ (f : Fault). Converts rules 1 job reaches input before after sink sink' (Err f)) (sym h.1)
-      (not_painted rules 1 job reaches input before after sink sink' h.0 drawn.read accepted few (painted shapes (Err h.0) are h.2))
-  painting_converted shapes (Ok o) are few h =
-      let painting = painted shapes (Ok o.done.bytes) are h.0 in
+      (not_painted rules 1 job reaches input before after sink sink' h.0 drawn.read accepted few (painted contents (Err h.0) are h.2))
+  painting_converted contents (Ok o) are few h =
+      let painting = painted contents (Ok o.done.bytes) are h.0 in
       let rows = rows_of job.page job.dots in
-      let text = shapes_row 1 job reaches (shapes_by rules job.page input) in
+      let text = contents_row 1 job reaches (contents_by rules job.page input) in
       let wrote = subst (λ (foot : List ℕ). IsWhole (picture_of (head_of job.form job.page job.dots) text foot rows job.first_row) sink sink' o.done.bytes) (foot_at_end (foot_bytes job.form) rows) painting.1 in
       record {
         read = drawn.read;
@@ -146,14 +150,15 @@ module _ (rules : Rules) (chosen : RowChoice) (job : Job) (reaches : Reach) (inp
         sound = wrote.sound;
         rows = h.1 ∙ ap₂ (λ (most : Option ℕ) (page : Page). end_of most job.first_row (rows_of page job.dots) - job.first_row) whole here;
         bytes = wrote.count;
-        strokes_count = h.2.strokes_count ∙ ap stroke_count are;
-        areas_count = h.2.areas_count ∙ ap (λ (ss : ShapeList). length ss.areas) are;
-        notes = h.2.notes ∙ drawn.lines.notes_are;
+        strokes_count = h.2.strokes_count ∙ ap (λ (ss : ContentList). stroke_count ss.shapes) are;
+        areas_count = h.2.areas_count ∙ ap (λ (ss : ContentList). length ss.shapes.areas) are;
+        images_count = h.2.images_count ∙ ap (λ (ss : ContentList). length ss.images) are;
+        notes = h.2.notes ∙ drawn.lines.notes_are ∙ ap (λ (place : Place). rules.notes place.drawn_on input) lies;
       }
 
-  converted : (shapes : ShapeList) (answer : Result Outcome Fault) → shapes ≡ shapes_by rules job.page input
-      → WritesShapes given_choice chosen job drawing shapes reaches sink sink' answer → Converts rules 1 job reaches input before after sink sink' (done_of answer)
-  converted shapes answer are h = judged (has_too_many_pixels drawing.page job.dots) refl
+  converted : (contents : ContentList) (answer : Result Outcome Fault) → contents ≡ contents_by rules job.page input
+      → WritesShapes given_choice chosen job drawing contents reaches sink sink' answer → Converts rules 1 job reaches input before after sink sink' (done_of answer)
+  converted contents answer are h = judged (has_too_many_pixels drawing.page job.dots) refl
     where
       judged : (b : Bool) → has_too_many_pixels drawing.page job.dots ≡ b → Converts rules 1 job reaches input before after sink sink' (done_of answer)
       judged true many =
@@ -162,18 +167,18 @@ module _ (rules : Rules) (chosen : RowChoice) (job : Job) (reaches : Reach) (inp
           (record { read = drawn.read; refused = too_many_pixels job (rules.refusal job.page input) accepted there })
       judged false few =
           let there = subst (λ (page : Page). has_too_many_pixels page job.dots ≡ false) here few in
-          painting_converted shapes answer are there (h.painted few)
+          painting_converted contents answer are there (h.painted few)
 
-  few_tests : (shapes : ShapeList) (tests tests' : ℕ) → shapes ≡ shapes_by rules job.page input
-      → tests' ≤ tests + strip_boxes (times_on given_choice drawing.page job chosen.smoothing) chosen.most_rows (on_page given_choice drawing.page job) shapes.strokes
+  few_tests : (contents : ContentList) (tests tests' : ℕ) → contents ≡ contents_by rules job.page input
+      → tests' ≤ tests + strip_boxes (times_on given_choice drawing.page job chosen.smoothing) chosen.most_rows (on_page given_choice drawing.page job) contents.shapes.strokes
       → tests' ≤ tests + strokes_boxes 1 job (rules.strokes job.page input)
-  few_tests shapes tests tests' are h =
+  few_tests contents tests tests' are h =
       let n = chosen.smoothing.times in
-      let there = subst (λ (page : Page). tests' ≤ tests + strip_boxes n chosen.most_rows (on_page given_choice page job) shapes.strokes) here h in
-      let all = subst (λ (most : Option ℕ). tests' ≤ tests + strip_boxes n most job shapes.strokes) whole there in
-      let few = subst (λ (k : ℕ). tests' ≤ tests + k) (whole_boxes n job shapes.strokes) all in
+      let there = subst (λ (page : Page). tests' ≤ tests + strip_boxes n chosen.most_rows (on_page given_choice page job) contents.shapes.strokes) here h in
+      let all = subst (λ (most : Option ℕ). tests' ≤ tests + strip_boxes n most job contents.shapes.strokes) whole there in
+      let few = subst (λ (k : ℕ). tests' ≤ tests + k) (whole_boxes n job contents.shapes.strokes) all in
       subst (λ (k : ℕ). tests' ≤ tests + strokes_boxes k job (rules.strokes job.page input)) once
-      (subst (λ (ss : ShapeList). tests' ≤ tests + strokes_boxes n job ss.strokes) are few)
+      (subst (λ (ss : ContentList). tests' ≤ tests + strokes_boxes n job ss.shapes.strokes) are few)
 
 -- an empty carousel changes nothing
 with_none : (reading : Reading) (carousel : Carousel) → carousel ≡ empty → rules_with reading carousel ≡ rules_of reading
@@ -198,19 +203,19 @@ module _ (reading : Reading) (carousel : Carousel) (chosen : RowChoice) (job : J
       let given = subst (λ (c : PageChoice). HasDrawnFor (rules_with reading carousel) c picture before after answer) choice there in
       (subst (λ (p : Picture). HasDrawnFor (rules_with reading carousel) given_choice p before after answer) is given).draws
 
-  pub converted_given : (sink sink' : SinkState) (tests tests' : ℕ) (drawing : Drawing) (shapes : ShapeList) (answer : Result Outcome Fault) → chosen.smoothing.times ≡ 1 → chosen.most_rows ≡ None
-      → HasDrawn (rules_with reading carousel) given_choice job.pens job.page before after (Ok drawing) → shapes ≡ shapes_on drawing 0
-      → WritesShapes given_choice chosen job drawing shapes reaches sink sink' answer
-      → tests' ≤ tests + strip_boxes (times_on given_choice drawing.page job chosen.smoothing) chosen.most_rows (on_page given_choice drawing.page job) shapes.strokes
+  pub converted_given : (sink sink' : SinkState) (tests tests' : ℕ) (drawing : Drawing) (contents : ContentList) (answer : Result Outcome Fault) → chosen.smoothing.times ≡ 1 → chosen.most_rows ≡ None
+      → HasDrawn (rules_with reading carousel) given_choice job.pens job.page before after (Ok drawing) → contents ≡ contents_on drawing 0
+      → WritesShapes given_choice chosen job drawing contents reaches sink sink' answer
+      → tests' ≤ tests + strip_boxes (times_on given_choice drawing.page job chosen.smoothing) chosen.most_rows (on_page given_choice drawing.page job) contents.shapes.strokes
       → HasConvertedBy (rules_of reading) job reaches before after sink sink' tests tests' (done_of answer)
-  converted_given sink sink' tests tests' drawing shapes answer once whole drawn are wrote tested =
+  converted_given sink sink' tests tests' drawing contents answer once whole drawn are wrote tested =
       let by : Rules = rules_with reading carousel in
-      let all = are ∙ shapes_given by chosen job reaches drawn.input before after sink sink' drawing drawn.draws once whole in
+      let all = are ∙ contents_given by chosen job reaches drawn.input before after sink sink' drawing drawn.draws once whole in
       converted_with_none reading carousel job reaches before after sink sink' tests tests' (done_of answer) none (record {
         input = drawn.input;
         taken = drawn.taken;
-        converts = converted by chosen job reaches drawn.input before after sink sink' drawing drawn.draws once whole shapes answer all wrote;
-        tested = few_tests by chosen job reaches drawn.input before after sink sink' drawing drawn.draws once whole shapes tests tests' all tested;
+        converts = converted by chosen job reaches drawn.input before after sink sink' drawing drawn.draws once whole contents answer all wrote;
+        tested = few_tests by chosen job reaches drawn.input before after sink sink' drawing drawn.draws once whole contents tests tests' all tested;
       })
 
   pub not_converted_given : (sink : SinkState) (tests : ℕ) (fault : Fault) → HasDrawn (rules_with reading carousel) given_choice job.pens job.page before after (Err fault)
@@ -252,8 +257,8 @@ module _ (reading : Reading) (pens : PenSet) (given : Page) (input : List ℕ) (
     there : place_of drawing ≡ place_on Given given
     there = given_place (rules_of reading) pens given input (place_of drawing) drawn.placed
 
-    shapes_there : shapes_on drawing 0 ≡ shapes_by (rules_of reading) given input
-    shapes_there = shapes_drawn (rules_of reading) pens input drawing drawn.lines ∙ ap (λ (place : Place). shapes_by (placed_rules (rules_of reading) pens place) place.page input) there
+    contents_there : contents_on drawing 0 ≡ contents_by (rules_of reading) given input
+    contents_there = contents_drawn (rules_of reading) pens input drawing drawn.lines ∙ ap (λ (place : Place). contents_by (placed_rules (rules_of reading) pens place) place.page input) there
 
     accepted_there : (rules_of reading).refusal given input ≡ None
     accepted_there = subst (λ (place : Place). (rules_of reading).refusal place.drawn_on input ≡ None) there drawn.lines.accepted
@@ -261,7 +266,8 @@ module _ (reading : Reading) (pens : PenSet) (given : Page) (input : List ℕ) (
     text_there : report_drawn reading drawing input ≡ report_by reading (rules_of reading) (report_page given) given input
     text_there =
         let sheets = drawn.lines.sheets_are ∙ ap (λ (place : Place). (rules_of reading).sheets place.drawn_on input) there in
-        same_report reading _ _ _ _ _ _ input input (drawn.named ∙ ap page_reported there) shapes_there sheets refl
+        let told = drawn.lines.told_are ∙ ap (λ (place : Place). (rules_of reading).told place.drawn_on input) there in
+        same_report reading _ _ _ _ _ _ _ _ input input (drawn.named ∙ ap page_reported there) contents_there sheets told refl
 
     reported : (answer : Result Outcome Fault) → WritesReport reading pens drawing input sink sink' answer → Reports reading given input before after sink sink' (done_of answer)
     reported (Ok o) h = record {
@@ -271,9 +277,10 @@ module _ (reading : Reading) (pens : PenSet) (given : Page) (input : List ℕ) (
       sound = h.1;
       rows = h.2;
       bytes = h.3 ∙ ap length text_there;
-      strokes_count = h.4.strokes_count ∙ ap stroke_count shapes_there;
-      areas_count = h.4.areas_count ∙ ap (λ (ss : ShapeList). length ss.areas) shapes_there;
-      notes = h.4.notes ∙ drawn.lines.notes_are;
+      strokes_count = h.4.strokes_count ∙ ap (λ (ss : ContentList). stroke_count ss.shapes) contents_there;
+      areas_count = h.4.areas_count ∙ ap (λ (ss : ContentList). length ss.shapes.areas) contents_there;
+      images_count = h.4.images_count ∙ ap (λ (ss : ContentList). length ss.images) contents_there;
+      notes = h.4.notes ∙ drawn.lines.notes_are ∙ ap (λ (place : Place). (rules_of reading).notes place.drawn_on input) there;
     }
     reported (Err (Write row whole bytes)) h = record {
       read = drawn.read;

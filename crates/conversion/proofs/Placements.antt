@@ -2,17 +2,16 @@
 use Rattle.std.proofs.Common.{◌≡◌, ◌≤◌, ◌∙◌, ℕ, Bool, true, false, List, Option, Some, None, refl, sym, ap, subst}
 use Rattle.std.proofs.Props.{props}
 use mathlib.Core.HLevel.{is_prop→PathP}
-use Rattle.areas.specs.Shapes.{ShapeList}
+use Rattle.rows.specs.Contents.{ContentList}
 use Rattle.plot_page.specs.declared.page.Page.{Page}
 use Rattle.plot_page.specs.declared.pens.PenSet.{PenSet}
 use Rattle.page_fit.specs.Around.{Sides, sides_of}
-use Rattle.page_fit.specs.Shapes.{shapes_extent}
 use Rattle.page_fit.specs.declared.around.Corner.{Corner}
 use Rattle.page_fit.specs.declared.extent.Extent.{Extent}
 use Rattle.picture_job.specs.declared.page_choice.PageChoice.{PageChoice}
 use Rattle.conversion.specs.Placements.{HasNoPage, IsAround, IsAsked, IsDrawnOn, IsFirstPage, IsFitted, IsPlaced, IsPlacedBy}
-use Rattle.conversion.specs.Placements.{Place, no_corner}
-use Rattle.conversion.specs.Rules.{Rules, shapes_by}
+use Rattle.conversion.specs.Placements.{Place, contents_extent, no_corner}
+use Rattle.conversion.specs.Rules.{Rules, contents_by}
 use Rattle.conversion.specs.declared.placement.Placement.{Placement}
 use Rattle.conversion.specs.declared.placement.Placement.TheVariants.{Given, Asked, Unasked, Fitted, Blank, TooLarge}
 
@@ -65,12 +64,12 @@ drawn_alike : (asked : Bool) (rules : Rules) (given : Page) (plot : List ℕ) (p
 drawn_alike true rules given plot p q page page' a b = asked_alike rules given plot p q page page' a b
 drawn_alike false rules given plot p q page page' a b = (a.0 ∙ sym b.0, a.1 ∙ sym b.1)
 
-module _ (longest : ℕ) (pens : PenSet) (margin : ℕ) (on : Page) (shapes : ShapeList) where
+module _ (longest : ℕ) (pens : PenSet) (margin : ℕ) (on : Page) (contents : ContentList) where
   abbrev Is : Placement → Corner → Page → Type 0
-  Is placement corner page = IsFitted longest pens margin on shapes placement corner page
+  Is placement corner page = IsFitted longest pens margin on contents placement corner page
 
   abbrev seen : Option Extent
-  seen = shapes_extent pens on shapes
+  seen = contents_extent pens on contents
 
   Alike : Placement → Corner → Page → Placement → Corner → Page → Type 0
   Alike p k page q k' page' = (p ≡ q) × ((k ≡ k') × (page ≡ page'))
@@ -78,14 +77,14 @@ module _ (longest : ℕ) (pens : PenSet) (margin : ℕ) (on : Page) (shapes : Sh
   one_extent : (e f : Extent) → seen ≡ Some e → seen ≡ Some f → e ≡ f
   one_extent e f a b = let same : Some e ≡ Some f = sym a ∙ b in cc
 
-  around_once : (e f : Extent) (k k' : Corner) (page page' : Page) → seen ≡ Some e → seen ≡ Some f → IsAround longest pens margin shapes.strokes e k page → IsAround longest pens margin shapes.strokes f k' page'
+  around_once : (e f : Extent) (k k' : Corner) (page page' : Page) → seen ≡ Some e → seen ≡ Some f → IsAround longest pens margin contents e k page → IsAround longest pens margin contents f k' page'
       → (k ≡ k') × (page ≡ page')
   around_once e f k k' page page' a b x y =
-      let y' = subst (λ (z : Extent). IsAround longest pens margin shapes.strokes z k' page') (one_extent f e b a) y in
+      let y' = subst (λ (z : Extent). IsAround longest pens margin contents z k' page') (one_extent f e b a) y in
       (x.corner_is ∙ sym y'.corner_is, by_sides page page' _ x.sides y'.sides)
 
-  no_around : (e f : Extent) (k : Corner) (page : Page) → seen ≡ Some e → seen ≡ Some f → IsAround longest pens margin shapes.strokes e k page → HasNoPage longest pens margin shapes.strokes f → ⊥
-  no_around e f k page a b x none = none k page (subst (λ (z : Extent). IsAround longest pens margin shapes.strokes z k page) (one_extent e f a b) x)
+  no_around : (e f : Extent) (k : Corner) (page : Page) → seen ≡ Some e → seen ≡ Some f → IsAround longest pens margin contents e k page → HasNoPage longest pens margin contents f → ⊥
+  no_around e f k page a b x none = none k page (subst (λ (z : Extent). IsAround longest pens margin contents z k page) (one_extent e f a b) x)
 
   stays : (p : Placement) (k k' : Corner) (page page' : Page) → k ≡ no_corner → k' ≡ no_corner → page ≡ on → page' ≡ on → Alike p k page p k' page'
   unfolding Alike
@@ -125,8 +124,8 @@ placed_by None c rules pens given plot p q a b =
     one_place p q on.0 on.1 (a.1 ∙ sym b.1) (a.2 ∙ on.1 ∙ sym b.2)
 placed_by (Some margin) c rules pens given plot p q a b =
     let on : p.drawn_on ≡ q.drawn_on = (drawn_alike c.asked rules given plot a.0.0 b.0.0 p.drawn_on q.drawn_on a.0.1 b.0.1).1 in
-    let b' = subst (λ (x : Page). IsFitted rules.longest pens margin x (shapes_by rules x plot) q.placement q.corner q.page) (sym on) b.1 in
-    let same = fitted_alike rules.longest pens margin p.drawn_on (shapes_by rules p.drawn_on plot) p.placement q.placement p.corner q.corner p.page q.page a.1 b' in
+    let b' = subst (λ (x : Page). IsFitted rules.longest pens margin x (contents_by rules x plot) q.placement q.corner q.page) (sym on) b.1 in
+    let same = fitted_alike rules.longest pens margin p.drawn_on (contents_by rules p.drawn_on plot) p.placement q.placement p.corner q.corner p.page q.page a.1 b' in
     one_place p q same.0 on same.1.0 same.1.1
 
 -- the picture of a plot lies in one place

@@ -5,12 +5,13 @@ use Rattle.stroke_raster.specs.declared.painter.PaintFault.{PaintFault}
 use Rattle.hpgl_plot.specs.declared.fault.PlotFault.{PlotFault}
 use Rattle.plot_page.specs.Resolutions.{rows_of}
 use Rattle.picture_out.specs.Forms.{foot_bytes}
-use Rattle.rows.specs.Pictures.{Reach, head_of, job_fault, shapes_row}
+use Rattle.rows.specs.Pictures.{Reach, head_of, job_fault}
+use Rattle.rows.specs.ImagePictures.{contents_row}
 use Rattle.rows.specs.Progress.{HasPainted, PictureStops}
 use Rattle.rows.proofs.Joined.{foot_at_end}
 use Rattle.rows.specs.declared.fault.PictureFault.{PictureFault}
 use Rattle.rows.specs.declared.fault.PictureFault.TheVariants as cause
-use Rattle.conversion.specs.Rules.{Rules, shapes_by}
+use Rattle.conversion.specs.Rules.{Rules, contents_by}
 use Rattle.conversion.specs.Faults.{of_picture}
 use Rattle.conversion.specs.PageJobs.{has_too_many_pixels}
 use Rattle.conversion.specs.Pictures.{refused_fault}
@@ -30,13 +31,13 @@ too_many_pixels job refusal accepted many = rw (accepted, many) refl
 
 -- a job that was not painted, of a plot that was read and accepted, whose picture has few enough pixels
 pub not_painted : (rules : Rules) (n : ℕ) (job : Job) (reaches : Reach) (input : List ℕ) (before after : SourceState) (sink sink' : SinkState) (fault : PictureFault) → WasRead input before after → rules.refusal job.page input ≡ None → has_too_many_pixels job.page job.dots ≡ false
-    → HasPainted n None job reaches (shapes_by rules job.page input) sink sink' (Err fault) → Converts rules n job reaches input before after sink sink' (Err (of_picture fault))
+    → HasPainted n None job reaches (contents_by rules job.page input) sink sink' (Err fault) → Converts rules n job reaches input before after sink sink' (Err (of_picture fault))
 not_painted rules n job reaches input before after sink sink' cause.Memory read accepted few h = read.sound
 not_painted rules n job reaches input before after sink sink' cause.Unfinished read accepted few h = absurd h
 not_painted rules n job reaches input before after sink sink' (cause.Paint refusal) read accepted few h = record { read = read; refused = job_faults job (rules.refusal job.page input) (Some refusal) accepted few h }
 not_painted rules n job reaches input before after sink sink' (cause.Write row whole bytes) read accepted few h =
     let rows = rows_of job.page job.dots in
-    let text = shapes_row n job reaches (shapes_by rules job.page input) in
+    let text = contents_row n job reaches (contents_by rules job.page input) in
     let stops = subst (λ (foot : List ℕ). PictureStops (head_of job.form job.page job.dots) text foot rows job.first_row sink sink' (record { row = row; whole = whole; bytes = bytes })) (foot_at_end (foot_bytes job.form) rows) h.1 in
     record {
       read = read;

@@ -6,10 +6,9 @@ use Rattle.picture_job.specs.declared.picture.Picture.{Picture}
 use Rattle.devices.specs.Sources.{SourceState}
 use Rattle.directions.specs.declared.turn.Turn.{Turn}
 use Rattle.directions.specs.declared.turn.Turn.TheVariants.{None, Quarter, Half, ThreeQuarters}
-use Rattle.turning.specs.Turns.{are_turnable}
 use Rattle.conversion.specs.Kinds.{HasDrawnFor, HasDrawnTurned, HasTurned, pens_of}
 use Rattle.conversion.specs.Rules.{Rules}
-use Rattle.conversion.specs.Turned.{IsTurned}
+use Rattle.conversion.specs.Turned.{IsTurned, can_be_turned}
 use Rattle.conversion.specs.declared.fault.Fault.{Fault}
 use Rattle.conversion.specs.declared.fault.Fault.TheVariants.{Unturned}
 use Rattle.conversion.specs.declared.place.Drawing.{Drawing}
@@ -28,7 +27,7 @@ module _ (rules : Rules) (choice : PageChoice) (picture : Picture) (before after
     turned_so turned h =
         as_turned turn (Ok turned) some (drawing, drawn, subst (λ (p : PenSet). IsTurned p turn drawing turned) its h)
 
-    pub unturned_so : are_turnable pens turn drawing.page drawing.lines.strokes.items ≡ false → HasDrawnTurned turn rules choice picture before after (Err Unturned)
+    pub unturned_so : can_be_turned pens turn drawing ≡ false → HasDrawnTurned turn rules choice picture before after (Err Unturned)
     unturned_so h =
-        let by_pens = ap (λ (p : PenSet). are_turnable p turn drawing.page drawing.lines.strokes.items) (sym its) ∙ h in
+        let by_pens = ap (λ (p : PenSet). can_be_turned p turn drawing) (sym its) ∙ h in
         as_turned turn (Err Unturned) some (drawing, drawn, by_pens)

@@ -1,7 +1,7 @@
 -- What is written of a vector document is one of the shapes and labels of the sheet.
 use Rattle.std.proofs.Common.{◌≡◌, ◌≤◌, ◌↔◌, ◌+◌, ◌∙◌, ◌∷◌, ℕ, Bool, true, false, List, [], Result, Ok, Err, IfErr, IsErrAnd, inl, inr, length, ap, ap₂, arith, nat_le, nat_lt, refl, subst, sym}
 use Rattle.std.proofs.lemmas.Bool.{cases_lt, le-leb, leb-true, lt-ltb, ltb-true}
-use Rattle.areas.specs.Shapes.{ShapeList}
+use Rattle.rows.specs.Contents.{ContentList}
 use Rattle.areas.specs.declared.area.Area.{Area}
 use Rattle.labels.specs.Sheets.{all_counted}
 use Rattle.labels.specs.Labels.{LabelShape}
@@ -30,17 +30,18 @@ puts_pdf u naming page pens strokes areas ends pages title labels sink sink' n p
     let are = subst (λ p. AreStreams page pens (sheets strokes 0 p) (page_areas areas 0 p) (sheet_labels labels 0 p) streams) pages_are wrote.are in
     (document title pages, (streams, are, ap₂ document title_is pages_are), wrote.writes.0, wrote.writes.1)
 
--- the same document by the same format, shapes, ends and labels, and the same sink
-pub puts_same : {U V : Type 0} (u : U) (v : V) (format f : VectorFormat) (naming : Naming) (page : Page) (pens : PenSet) (shapes s : ShapeList) (ends e : List ℕ)
+-- the same document by the same format, contents, ends and labels, and the same sink
+pub puts_same : {U V : Type 0} (u : U) (v : V) (format f : VectorFormat) (naming : Naming) (page : Page) (pens : PenSet) (contents s : ContentList) (ends e image_ends i : List ℕ)
     (labels l : List LabelShape) (sink sink' k : SinkState)
-    → format ≡ f → s ≡ shapes → e ≡ ends → l ≡ labels → sink' ≡ k
-    → PutsVector (IsVector f naming page pens s e l) sink k (Ok v) → PutsVector (IsVector format naming page pens shapes ends labels) sink sink' (Ok u)
-puts_same u v format f naming page pens shapes s ends e labels l sink sink' k is same_shapes same_ends same_labels same_sink puts =
+    → format ≡ f → s ≡ contents → e ≡ ends → i ≡ image_ends → l ≡ labels → sink' ≡ k
+    → PutsVector (IsVector f naming page pens s e i l) sink k (Ok v) → PutsVector (IsVector format naming page pens contents ends image_ends labels) sink sink' (Ok u)
+puts_same u v format f naming page pens contents s ends e image_ends i labels l sink sink' k is same_contents same_ends same_image_ends same_labels same_sink puts =
     let document = puts.0 in
-    let shown = subst (λ g. IsVector g naming page pens shapes ends labels document) (sym is)
-    (subst (λ m. IsVector f naming page pens shapes ends m document) same_labels
-    (subst (λ n. IsVector f naming page pens shapes n l document) same_ends
-    (subst (λ m. IsVector f naming page pens m e l document) same_shapes puts.1))) in
+    let shown = subst (λ g. IsVector g naming page pens contents ends image_ends labels document) (sym is)
+    (subst (λ m. IsVector f naming page pens contents ends image_ends m document) same_labels
+    (subst (λ n. IsVector f naming page pens contents ends n l document) same_image_ends
+    (subst (λ n. IsVector f naming page pens contents n i l document) same_ends
+    (subst (λ m. IsVector f naming page pens m e i l document) same_contents puts.1)))) in
     rw same_sink (document, shown, puts.2, puts.3)
 
 -- labels have the same letters wherever their strokes are counted from

@@ -1,6 +1,6 @@
 -- What a drawing has of the areas of its plot: none goes on where a sheet ends, or where a label begins or ends, and the edges of each
 -- are alike, and lead round closed polygons.
-use Rattle.std.proofs.Common.{◌≡◌, ℕ, ap, refl, true, List, [], Result, Ok, Err}
+use Rattle.std.proofs.Common.{◌≡◌, ℕ, ap, refl, subst, sym, true, List, [], Result, Ok, Err, length}
 use Rattle.areas.specs.Shapes.{AreApart}
 use Rattle.areas.specs.declared.area.Area.{Area}
 use Rattle.carousel.specs.declared.carousel.Carousel.{Carousel}
@@ -22,11 +22,12 @@ use Rattle.plot_page.specs.Segments.{Segment}
 use Rattle.plot_page.specs.declared.page.Page.{Page}
 use Rattle.plot_page.specs.declared.pens.PenSet.{PenSet}
 use Rattle.turning.specs.Turns.{spot, turned_label, turned_place, turned_segment}
-use Rattle.full_plot.specs.Drawings.{areas_of, ends_in, outcome_with, strokes_in}
+use Rattle.full_plot.specs.Drawings.{areas_of, ends_in, finished, full_at_start_with, full_runs, outcome_with, strokes_in}
 use Rattle.full_plot.specs.Labels.{labels_of}
 use Rattle.full_plot.specs.Worlds.{FullWorld}
 use Rattle.full_plot.proofs.BesideLabels.{labels_beside}
 use Rattle.full_plot.proofs.Later.{areas_alike, areas_apart, areas_within, no_area_at_ends}
+use Rattle.full_plot.proofs.Finished.{finishes}
 use Rattle.full_plot.proofs.RoundAreas.{areas_round}
 use Rattle.conversion.specs.Drawings.{IsDrawn, place_of}
 use Rattle.conversion.specs.Kinds.{HasDrawnTurned, HasTurned, pens_of}
@@ -46,6 +47,33 @@ record AreOfPlot (strokes : List Segment) (areas : List Area) (ends : List ℕ) 
   apart : AreApart 0 areas
   solid : AreSolid strokes areas ends ls
 
+-- of the items of a plot, before the image that is open closes
+of_items : (encoding : Encoding) (carousel : Carousel) (page : Page) (plot : List ℕ) (w : FullWorld)
+    → full_runs (full_at_start_with encoding carousel page) (full_cut plot) ≡ Ok w
+    → AreOfPlot w.core.kept w.areas w.ends (labels_of encoding carousel page plot)
+of_items encoding carousel page plot w is =
+    let items = full_cut plot in
+    record {
+      apart = areas_apart encoding carousel page items w is;
+      solid = record {
+        ends_beside = no_area_at_ends encoding carousel page items w is;
+        labels_beside = labels_beside true encoding carousel page plot w is;
+        within = areas_within encoding carousel page items w is;
+        solid = λ n d inside. (
+          areas_round encoding carousel page items w is n d inside,
+          areas_alike encoding carousel page items w is n d inside,
+        );
+      };
+    }
+
+finished_so : (encoding : Encoding) (carousel : Carousel) (page : Page) (plot : List ℕ) (q : Result FullWorld PlotFault) (v : FullWorld)
+    → full_runs (full_at_start_with encoding carousel page) (full_cut plot) ≡ q → finished (length plot) q ≡ Ok v
+    → AreOfPlot v.core.kept v.areas v.ends (labels_of encoding carousel page plot)
+finished_so encoding carousel page plot (Err e) v is end = absurd (let wrong : finished (length plot) (Err e) ≡ Err e = refl in cc)
+finished_so encoding carousel page plot (Ok w) v is end =
+    subst (λ (u : FullWorld). AreOfPlot u.core.kept u.areas u.ends (labels_of encoding carousel page plot)) (sym (finishes w v (length plot) end))
+    (of_items encoding carousel page plot w is)
+
 of_plot : (encoding : Encoding) (carousel : Carousel) (page : Page) (plot : List ℕ) (r : Result FullWorld PlotFault)
     → outcome_with encoding carousel page plot ≡ r → AreOfPlot (strokes_in r) (areas_of r) (ends_in r) (labels_of encoding carousel page plot)
 of_plot encoding carousel page plot (Err e) is = record {
@@ -53,19 +81,7 @@ of_plot encoding carousel page plot (Err e) is = record {
   solid = without_areas [] [] (labels_of encoding carousel page plot);
 }
 of_plot encoding carousel page plot (Ok v) is =
-    let items = full_cut plot in
-    record {
-      apart = areas_apart encoding carousel page items v is;
-      solid = record {
-        ends_beside = no_area_at_ends encoding carousel page items v is;
-        labels_beside = labels_beside true encoding carousel page plot v is;
-        within = areas_within encoding carousel page items v is;
-        solid = λ n d inside. (
-          areas_round encoding carousel page items v is n d inside,
-          areas_alike encoding carousel page items v is n d inside,
-        );
-      };
-    }
+    finished_so encoding carousel page plot (full_runs (full_at_start_with encoding carousel page) (full_cut plot)) v refl is
 
 -- what is drawn of it that is read so
 by_rules : (reading : Reading) (carousel : Carousel) (page : Page) (plot : List ℕ)

@@ -6,9 +6,10 @@ use Rattle.plot_page.specs.Resolutions.{rows_of}
 use Rattle.picture_job.specs.declared.job.Job.{Job}
 use Rattle.rows.specs.Stops.{IsStoppedAt}
 use Rattle.areas.specs.Shapes.{stroke_count}
-use Rattle.rows.specs.Pictures.{Reach, head_of, shapes_row, shapes_picture}
+use Rattle.rows.specs.Pictures.{Reach, head_of}
+use Rattle.rows.specs.ImagePictures.{contents_picture, contents_row}
 use Rattle.conversion.specs.Pictures.{plot_strokes, refused_fault}
-use Rattle.conversion.specs.Rules.{Rules, core_rules, shapes_by}
+use Rattle.conversion.specs.Rules.{Rules, contents_by, core_rules, shapes_by}
 use Rattle.conversion.specs.Readings.{WasRead, WasTooLong}
 use Rattle.devices.specs.Sinks.{SinkState}
 use Rattle.devices.specs.Sources.{SourceState}
@@ -22,24 +23,25 @@ pub record IsWritten (rules : Rules) (n : ℕ) (job : Job) (reaches : Reach) (in
     (sink sink' : SinkState) (done : Done) : Type 0 where
   pub read : WasRead input before after
   pub accepted : refused_fault job (rules.refusal job.page input) ≡ None
-  pub written : Appends sink.held sink'.held (shapes_picture n job reaches (shapes_by rules job.page input))
+  pub written : Appends sink.held sink'.held (contents_picture n job reaches (contents_by rules job.page input))
   pub sound : sink'.faults ≡ sink.faults
   pub rows : done.rows ≡ rows_of job.page job.dots - job.first_row
-  pub bytes : done.bytes ≡ length (shapes_picture n job reaches (shapes_by rules job.page input))
+  pub bytes : done.bytes ≡ length (contents_picture n job reaches (contents_by rules job.page input))
   pub strokes_count : done.strokes ≡ stroke_count (shapes_by rules job.page input)
   pub areas_count : done.areas ≡ length (rules.areas job.page input)
-  pub notes : done.notes ≡ rules.notes input
+  pub images_count : done.images ≡ length (rules.images job.page input)
+  pub notes : done.notes ≡ rules.notes job.page input
 
 -- the sink failed after the first bytes of the picture, in a row that begins after the bytes `whole`
 pub record IsCutShort (rules : Rules) (n : ℕ) (job : Job) (reaches : Reach) (input : List ℕ) (before after : SourceState)
     (sink sink' : SinkState) (row whole bytes : ℕ) : Type 0 where
   pub read : WasRead input before after
   pub accepted : refused_fault job (rules.refusal job.page input) ≡ None
-  pub written : Appends sink.held sink'.held (take bytes (shapes_picture n job reaches (shapes_by rules job.page input)))
-  pub within : bytes < length (shapes_picture n job reaches (shapes_by rules job.page input))
+  pub written : Appends sink.held sink'.held (take bytes (contents_picture n job reaches (contents_by rules job.page input)))
+  pub within : bytes < length (contents_picture n job reaches (contents_by rules job.page input))
   pub failed : sink'.faults ≡ sink.faults + 1
   pub stopped : IsStoppedAt (head_of job.form job.page job.dots)
-      (shapes_row n job reaches (shapes_by rules job.page input)) (rows_of job.page job.dots) job.first_row bytes row whole
+      (contents_row n job reaches (contents_by rules job.page input)) (rows_of job.page job.dots) job.first_row bytes row whole
 
 -- the plot was read whole, and this is why it has no picture of the job
 pub record IsRefused (rules : Rules) (job : Job) (input : List ℕ) (before after : SourceState)

@@ -8,7 +8,7 @@ use Rattle.conversion.specs.Rules.{Rules}
 use Rattle.plot_page.specs.declared.pens.PenSet.{PenSet}
 use Rattle.picture_job.specs.declared.page_choice.PageChoice.{PageChoice}
 use Rattle.full_plot.specs.Labels.{labels_kept}
-use Rattle.conversion.specs.Placements.{IsFirstPage, IsPlaced, Place, labels_at, page_reported, placed_rules, strokes_at}
+use Rattle.conversion.specs.Placements.{IsFirstPage, IsPlaced, Place, images_at, labels_at, page_reported, placed_rules, strokes_at}
 use Rattle.conversion.specs.declared.lines.Lines.{Lines}
 use Rattle.conversion.specs.declared.drawing.ReadPlot.{ReadPlot}
 use Rattle.conversion.specs.declared.place.Drawing.{Drawing}
@@ -27,15 +27,18 @@ abbrev pub IsReasonOnFirst : PageChoice → Rules → Page → List ℕ → Plot
 IsReasonOnFirst choice rules given plot fault =
     (page : Page) × IsFirstPage choice rules given plot page × IsReason fault (rules.refusal page plot)
 
--- the plot is accepted for the page, and these are the strokes that it draws there, the areas among them, its labels, if they
--- are kept, and how many notes there are on it
+-- the plot is accepted for the page, and these are the strokes that it draws there, the areas and images among them, its labels,
+-- if they are kept, and how many notes there are on it
 pub record AreLinesOf (rules : Rules) (page : Page) (plot : List ℕ) (lines : Lines) : Type 0 where
   pub accepted : rules.refusal page plot ≡ None
   pub strokes_are : lines.strokes.items ≡ rules.strokes page plot
   pub areas_are : lines.areas.items ≡ rules.areas page plot
-  pub notes_are : lines.notes ≡ rules.notes plot
+  pub images_are : lines.images.items ≡ rules.images page plot
+  pub told_are : lines.told.items ≡ rules.told page plot
+  pub notes_are : lines.notes ≡ rules.notes page plot
   pub sheets_are : lines.sheets ≡ rules.sheets page plot
   pub ends_are : lines.ends.items ≡ rules.ends page plot
+  pub image_ends_are : lines.image_ends.items ≡ rules.image_ends page plot
   pub labels_are : lines.labels.items ≡ labels_kept lines.labelled (rules.labels page plot)
 
 -- where its picture lies
@@ -52,9 +55,13 @@ pub record AreMoved (pens : PenSet) (lines : Lines) (place : Place) (moved : Lin
   pub strokes_are : moved.strokes.items
       ≡ strokes_at place.placement pens place.drawn_on place.corner place.page lines.strokes.items
   pub areas_are : moved.areas.items ≡ lines.areas.items
+  pub images_are : moved.images.items
+      ≡ images_at place.placement place.drawn_on place.corner place.page lines.images.items
+  pub told_are : moved.told.items ≡ lines.told.items
   pub notes_are : moved.notes ≡ lines.notes
   pub sheets_are : moved.sheets ≡ lines.sheets
   pub ends_are : moved.ends.items ≡ lines.ends.items
+  pub image_ends_are : moved.image_ends.items ≡ lines.image_ends.items
   pub labels_are : moved.labels.items ≡ labels_at place.placement place.corner lines.labels.items
   pub labelled_are : moved.labelled ≡ lines.labelled
 

@@ -17,9 +17,8 @@ use Rattle.conversion.specs.Conversions.{is_write}
 use Rattle.conversion.specs.Drawings.{HasDrawn}
 use Rattle.rows.specs.Pictures.{Reach}
 use Rattle.conversion.specs.Rules.{Rules}
-use Rattle.conversion.specs.Sheets.{WritesPng, WritesShapes, shapes_on, strokes_on}
-use Rattle.conversion.specs.Turned.{IsTurned}
-use Rattle.turning.specs.Turns.{are_turnable}
+use Rattle.conversion.specs.Sheets.{WritesPng, WritesShapes, contents_on, strokes_on}
+use Rattle.conversion.specs.Turned.{IsTurned, can_be_turned}
 use Rattle.conversion.specs.Vectors.{WritesVector}
 use Rattle.rows.specs.Watching.{IsTold}
 use Rattle.conversion.specs.declared.fault.Fault.{Fault}
@@ -49,9 +48,9 @@ has_labels _ = false
 abbrev pub WritesSheet : PageChoice → Picture → Naming → Reach → Drawing → ℕ → SinkState → SinkState → Result Outcome Fault →
     Type 0
 WritesSheet choice (Rows job rows) naming reaches drawing sheet sink sink' answer =
-    WritesShapes choice rows job drawing (shapes_on drawing sheet) reaches sink sink' answer
+    WritesShapes choice rows job drawing (contents_on drawing sheet) reaches sink sink' answer
 WritesSheet choice (Png job) naming reaches drawing sheet sink sink' answer =
-    WritesPng choice job drawing (shapes_on drawing sheet) reaches sink sink' answer
+    WritesPng choice job drawing (contents_on drawing sheet) reaches sink sink' answer
 WritesSheet choice (Vector job) naming reaches drawing sheet sink sink' answer =
     WritesVector job naming drawing sheet sink sink' answer
 
@@ -86,7 +85,7 @@ HasTurned turn rules choice picture before after (Ok turned) =
     × IsTurned (pens_of picture) turn drawing turned
 HasTurned turn rules choice picture before after (Err Unturned) =
     (drawing : Drawing) × HasDrawnFor rules choice picture before after (Ok drawing)
-    × (are_turnable (pens_of picture) turn drawing.page drawing.lines.strokes.items ≡ false)
+    × (can_be_turned (pens_of picture) turn drawing ≡ false)
 HasTurned turn rules choice picture before after (Err fault) = HasDrawnFor rules choice picture before after (Err fault)
 
 -- a plot was drawn for a picture, and then turned, if it is to be turned

@@ -1,17 +1,19 @@
 -- The report on a plot, and what a report answers, from what it read.
-use Rattle.std.specs.Prelude.{◌≡◌, ◌⊎◌, ℕ, ◌+◌, ◌<◌, List, length, take, Result, Ok, Err, None, nat_le}
+use Rattle.std.specs.Prelude.{◌≡◌, ◌⊎◌, ℕ, ◌+◌, ◌<◌, List, length, take, Option, Result, Ok, Err, None, nat_le}
 use Rattle.std.specs.Io.KnownBytes.{Consumes, Appends}
 use Rattle.plot_page.specs.declared.page.Page.{Page}
 use Rattle.devices.specs.Sinks.{SinkState}
 use Rattle.conversion.specs.Drawings.{HasDrawn, IsNotDrawn}
-use Rattle.conversion.specs.Sheets.{TellsOf, shapes_on}
+use Rattle.conversion.specs.Sheets.{TellsOf, contents_on}
 use Rattle.conversion.specs.declared.place.Drawing.{Drawing}
-use Rattle.areas.specs.Shapes.{ShapeList, stroke_count}
+use Rattle.areas.specs.Shapes.{stroke_count}
+use Rattle.rows.specs.Contents.{ContentList}
+use Rattle.hpgl_plot.specs.declared.note.NoteKind.{NoteKind}
 use Rattle.plot_report.specs.Report.{report_of, full_report_of, report_page}
 use Rattle.plot_report.specs.declared.report_page.ReportPage.{ReportPage}
 use Rattle.picture_job.specs.declared.reading.Reading.{Reading}
 use Rattle.picture_job.specs.declared.reading.Reading.TheVariants.{Core, Full}
-use Rattle.conversion.specs.Rules.{Rules, core_notes, full_notes, rules_of, shapes_by}
+use Rattle.conversion.specs.Rules.{Rules, contents_by, core_notes, full_notes, rules_of, shapes_by}
 use Rattle.plot_page.specs.Pens.{has_pen}
 use Rattle.plot_page.specs.declared.pens.PenSet.{PenSet}
 use Rattle.picture_job.specs.declared.page_choice.PageChoice.{PageChoice}
@@ -22,20 +24,24 @@ use Rattle.conversion.specs.declared.done.Done.{Done}
 use Rattle.conversion.specs.declared.fault.Fault.{Fault}
 use Rattle.conversion.specs.declared.fault.Fault.TheVariants.{TooLong, Memory, Plot, Write, Read}
 
--- the report on a plot that is read so, by the page that it names, its shapes and its sheets
-abbrev pub report_on : Reading → ReportPage → ShapeList → ℕ → List ℕ → List ℕ
-report_on Core page shapes sheets plot = report_of page shapes.strokes (core_notes plot)
-report_on (Full sheet encoding) page shapes sheets plot = full_report_of page sheets shapes (full_notes plot)
+-- the report on a plot that is read so, by the page that it names, its shapes, its images, its sheets, and what is noted on escapes
+abbrev pub report_on : Reading → ReportPage → ContentList → ℕ → List (Option NoteKind) → List ℕ → List ℕ
+report_on Core page contents sheets told plot = report_of page contents.shapes.strokes (core_notes plot)
+report_on (Full sheet encoding) page contents sheets told plot =
+    full_report_of page sheets contents.shapes contents.images (full_notes told plot)
 
--- that on a drawing of a plot
+-- that on a drawing of a plot, which has these contents
+abbrev pub report_of_contents : Reading → Drawing → ContentList → List ℕ → List ℕ
+report_of_contents reading drawing contents plot =
+    report_on reading drawing.named contents drawing.lines.sheets drawing.lines.told.items plot
+
 abbrev pub report_drawn : Reading → Drawing → List ℕ → List ℕ
-report_drawn reading drawing plot =
-    report_on reading drawing.named (shapes_on drawing 0) drawing.lines.sheets plot
+report_drawn reading drawing plot = report_of_contents reading drawing (contents_on drawing 0) plot
 
 -- that on a plot that is drawn by these rules
 abbrev pub report_by : Reading → Rules → ReportPage → Page → List ℕ → List ℕ
 report_by reading rules named page plot =
-    report_on reading named (shapes_by rules page plot) (rules.sheets page plot) plot
+    report_on reading named (contents_by rules page plot) (rules.sheets page plot) (rules.told page plot) plot
 
 -- the whole report was written
 pub record IsReported (reading : Reading) (rules : Rules) (named : ReportPage) (page : Page) (input : List ℕ)
@@ -48,7 +54,8 @@ pub record IsReported (reading : Reading) (rules : Rules) (named : ReportPage) (
   pub bytes : done.bytes ≡ length (report_by reading rules named page input)
   pub strokes_count : done.strokes ≡ stroke_count (shapes_by rules page input)
   pub areas_count : done.areas ≡ length (rules.areas page input)
-  pub notes : done.notes ≡ rules.notes input
+  pub images_count : done.images ≡ length (rules.images page input)
+  pub notes : done.notes ≡ rules.notes page input
 
 -- the sink failed after the first bytes of the report, which has no rows to go on from
 pub record IsReportCutShort (reading : Reading) (rules : Rules) (named : ReportPage) (page : Page) (input : List ℕ)
@@ -98,7 +105,7 @@ WritesReport reading pens drawing plot sink sink' (Ok outcome) =
     let text = report_drawn reading drawing plot in
     Appends sink.held sink'.held text × (sink'.faults ≡ sink.faults)
     × (outcome.done.rows ≡ 0) × (outcome.done.bytes ≡ length text)
-    × TellsOf drawing pens (shapes_on drawing 0) outcome
+    × TellsOf drawing pens (contents_on drawing 0) outcome
 WritesReport reading pens drawing plot sink sink' (Err (Write row whole bytes)) =
     let text = report_drawn reading drawing plot in
     Appends sink.held sink'.held (take bytes text) × (bytes < length text) × (sink'.faults ≡ sink.faults + 1)

@@ -7,15 +7,20 @@ use Rattle.hpgl_text.specs.declared.profile.Profile.TheVariants as profile
 use Rattle.hpgl_plot.specs.declared.fault.PlotFault.{PlotFault}
 use Rattle.hpgl_plot.specs.Notes as core
 use Rattle.hpgl_plot.specs.declared.note.Note.{Note}
+use Rattle.hpgl_plot.specs.declared.note.NoteKind.{NoteKind}
 use Rattle.carousel.specs.Carousels.{empty}
 use Rattle.carousel.specs.declared.carousel.Carousel.{Carousel}
 use Rattle.character_sets.specs.declared.encoding.Encoding.{Encoding}
 use Rattle.hpgl_plot.specs.Strokes.{strokes_with, refusal_with}
 use Rattle.areas.specs.Shapes.{ShapeList}
 use Rattle.areas.specs.declared.area.Area.{Area}
-use Rattle.full_plot.specs.Drawings.{areas_of, areas_of_sheet, outcome_with, refusal_in, strokes_in, ends_in, sheet_strokes, sheet_count}
+use Rattle.full_plot.specs.Drawings.{areas_of, areas_of_sheet, outcome_with, refusal_in, strokes_in, ends_in, sheet_strokes}
+use Rattle.full_plot.specs.Drawings.{image_ends_in, images_in, sheet_count}
+use Rattle.full_plot.specs.Noted.{told_of}
+use Rattle.conversion.specs.Images.{images_of_sheet}
 use Rattle.full_plot.specs.Labels.{labels_of, labels_of_sheet}
 use Rattle.full_notes.specs.Notes as full
+use Rattle.page_images.specs.PageImages.{ImageShape}
 use Rattle.labels.specs.Labels.{LabelShape}
 use Rattle.page_fit.specs.Around.{Sides}
 use Rattle.plot_size.specs.Sizes.{longest_side, sides_asked}
@@ -24,25 +29,30 @@ use Rattle.plot_page.specs.declared.page.Page.{Page}
 use Rattle.picture_job.specs.declared.job.Job.{Job}
 use Rattle.picture_job.specs.declared.reading.Reading.{Reading}
 use Rattle.picture_job.specs.declared.reading.Reading.TheVariants.{Core, Full}
-use Rattle.rows.specs.Pictures.{Reach, has_resolution, shapes_picture, shapes_strip}
+use Rattle.rows.specs.Contents.{ContentList}
+use Rattle.rows.specs.Pictures.{Reach, has_resolution}
+use Rattle.rows.specs.ImagePictures.{contents_picture, contents_strip}
 use Rattle.conversion.specs.Pictures.{plot_strokes, plot_refusal, refused_fault}
 use Rattle.conversion.specs.declared.setup.Setup.{Setup}
 use Rattle.conversion.specs.declared.fault.Fault.{Fault}
 use Rattle.conversion.specs.declared.fault.Fault.TheVariants.{TooLong, Memory, Write, Read, Resolution}
 
--- the strokes of a plot that is accepted for a page, the first refusal, or None if it is accepted, how many notes there are on
--- it, how many sheets have strokes, 0 where that is not counted, how many strokes there were when each sheet of these strokes
--- ended, the page that it asks for where one is given, or None if it asks for none, and its areas and its labels, by these
--- strokes: none in core
+-- the strokes of a plot that is accepted for a page, the first refusal, or None if it is accepted, what is noted on its escapes,
+-- how many notes there are on it, how many sheets have something, 0 where that is not counted, how many strokes and how many images
+-- there were when each sheet of these ended, the page that it asks for where one is given, or None if it asks for none, and its
+-- areas, its images and its labels, by these strokes: none in core
 pub record Rules : Type 0 where
   pub strokes : Page → List ℕ → List Segment
   pub areas : Page → List ℕ → List Area
   pub refusal : Page → List ℕ → Option PlotFault
-  pub notes : List ℕ → ℕ
+  pub told : Page → List ℕ → List (Option NoteKind)
+  pub notes : Page → List ℕ → ℕ
   pub sheets : Page → List ℕ → ℕ
   pub ends : Page → List ℕ → List ℕ
+  pub image_ends : Page → List ℕ → List ℕ
   pub asked : Page → List ℕ → Option Sides
   pub longest : ℕ
+  pub images : Page → List ℕ → List ImageShape
   pub labels : Page → List ℕ → List LabelShape
 
 -- what is noted on a plot in the profile core
@@ -55,17 +65,20 @@ core_rules = record {
   strokes = plot_strokes;
   areas = λ page plot. [];
   refusal = plot_refusal;
-  notes = λ plot. length (core_notes plot);
+  told = λ page plot. [];
+  notes = λ page plot. length (core_notes plot);
   sheets = λ page plot. 0;
   ends = λ page plot. [];
+  image_ends = λ page plot. [];
   asked = sides_asked profile.Core;
   longest = longest_side profile.Core;
+  images = λ page plot. [];
   labels = λ page plot. [];
 }
 
--- what is noted on a plot in the profile full
-abbrev pub full_notes : List ℕ → List Note
-full_notes plot = full.notes (full_cut plot)
+-- what is noted on a plot in the profile full, by what is noted on each of its escapes
+abbrev pub full_notes : List (Option NoteKind) → List ℕ → List Note
+full_notes told plot = full.notes_told told (full_cut plot)
 
 -- where sheets end in what is drawn of one sheet, or of all sheets by 0
 abbrev pub ends_of : ℕ → List ℕ → List ℕ
@@ -80,11 +93,16 @@ full_rules sheet encoding carousel =
       areas = λ page plot. areas_of_sheet (areas_of (drawn page plot)) (ends_in (drawn page plot))
           (length (strokes_in (drawn page plot))) sheet;
       refusal = λ page plot. refusal_in (drawn page plot);
-      notes = λ plot. length (full_notes plot);
-      sheets = λ page plot. sheet_count (ends_in (drawn page plot)) (length (strokes_in (drawn page plot)));
+      told = λ page plot. told_of encoding carousel page plot;
+      notes = λ page plot. length (full_notes (told_of encoding carousel page plot) plot);
+      sheets = λ page plot. sheet_count (ends_in (drawn page plot)) (length (strokes_in (drawn page plot)))
+          (image_ends_in (drawn page plot)) (length (images_in (drawn page plot)));
       ends = λ page plot. ends_of sheet (ends_in (drawn page plot));
+      image_ends = λ page plot. ends_of sheet (image_ends_in (drawn page plot));
       asked = sides_asked profile.Full;
       longest = longest_side profile.Full;
+      images = λ page plot. images_of_sheet (images_in (drawn page plot)) (image_ends_in (drawn page plot)) (ends_in (drawn page plot))
+          (length (strokes_in (drawn page plot))) sheet;
       labels = λ page plot. labels_of_sheet (labels_of encoding carousel page plot) (ends_in (drawn page plot))
           (length (strokes_in (drawn page plot))) sheet;
     }
@@ -110,13 +128,17 @@ rules_in setup = rules_with setup.reading setup.carousel.now
 abbrev pub shapes_by : Rules → Page → List ℕ → ShapeList
 shapes_by rules page plot = record { strokes = rules.strokes page plot; areas = rules.areas page plot }
 
+-- these shapes, and its images
+abbrev pub contents_by : Rules → Page → List ℕ → ContentList
+contents_by rules page plot = record { shapes = shapes_by rules page plot; images = rules.images page plot }
+
 -- the picture of a job and a plot by these rules, smoothed n times
 abbrev pub picture_by : Rules → ℕ → Job → Reach → List ℕ → List ℕ
-picture_by rules n job reaches plot = shapes_picture n job reaches (shapes_by rules job.page plot)
+picture_by rules n job reaches plot = contents_picture n job reaches (contents_by rules job.page plot)
 
 -- the strip of it that is written: at most so many rows
 abbrev pub strip_by : Rules → ℕ → Option ℕ → Job → Reach → List ℕ → List ℕ
-strip_by rules n most job reaches plot = shapes_strip n most job reaches (shapes_by rules job.page plot)
+strip_by rules n most job reaches plot = contents_strip n most job reaches (contents_by rules job.page plot)
 
 -- a plot has a picture of a job by these rules: it is not too long, and nothing refuses it
 pub record HasPictureBy (rules : Rules) (job : Job) (plot : List ℕ) : Type 0 where

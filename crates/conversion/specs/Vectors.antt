@@ -1,8 +1,10 @@
 -- Vector documents of plots: what is written for a drawing.
 use Rattle.std.specs.Prelude.{◌≡◌, ◌↔◌, Bool, ℕ, ◌+◌, min, nat_eq, nat_le, nat_lt, true, false, if◌then◌else◌, List, [], ◌∷◌, length, Result, Ok, Err, IfOk, ⊤}
 use Rattle.std.specs.Io.KnownBytes.{Appends}
-use Rattle.areas.specs.Shapes.{ShapeList}
+use Rattle.areas.specs.Views.{areas_in}
 use Rattle.areas.specs.declared.area.Area.{Area}
+use Rattle.page_images.specs.Views.{images_in}
+use Rattle.stroke_runs.specs.declared.view.SheetView.{SheetView}
 use Rattle.plot_page.specs.Segments.{Segment}
 use Rattle.plot_page.specs.declared.page.Page.{Page}
 use Rattle.plot_page.specs.declared.pens.PenSet.{PenSet}
@@ -17,9 +19,10 @@ use Rattle.pdf.specs.Documents.{AreStreams, page_areas, pdf_bytes, pens_drawn, r
 use Rattle.pdf.specs.Texts.{letter_count}
 use Rattle.pdf.specs.declared.counts.TheConstants.{MOST_LETTERS}
 use Rattle.dxf.specs.Documents.{dxf_bytes, dxf_sheets_bytes}
-use Rattle.svg.specs.Documents.{sheets_bytes, svg_bytes}
+use Rattle.rows.specs.Contents.{ContentList}
+use Rattle.svg.specs.Sections.{Contents, sheets_document, svg_document}
 use Rattle.conversion.specs.Rules.{ends_of}
-use Rattle.conversion.specs.Sheets.{TellsOf, labels_on, shapes_on}
+use Rattle.conversion.specs.Sheets.{TellsOf, contents_on, labels_on}
 use Rattle.conversion.specs.declared.fault.Fault.{Fault}
 use Rattle.conversion.specs.declared.fault.Fault.TheVariants.{Letters, Memory, Unfinished}
 use Rattle.conversion.specs.declared.naming.Naming.{Naming}
@@ -42,13 +45,29 @@ ends_after count at (end ∷ ends) =
 abbrev pub page_ends : ℕ → List ℕ → List ℕ
 page_ends count ends = if nat_eq count 0 then 0 ∷ [] else ends_after count 0 ends
 
--- the SVG of strokes, areas and labels among which sheets end there: with a group for each sheet, if one ends
-abbrev pub svg_of : Page → PenSet → List Segment → List Area → List ℕ → List LabelShape → List ℕ
-svg_of page pens strokes areas ends labels =
-    if nat_eq (length ends) 0 then svg_bytes page pens strokes areas labels else
-    sheets_bytes page pens strokes areas ends labels
+-- what an SVG shows of shapes, images and labels
+abbrev pub svg_contents : ContentList → List LabelShape → Contents
+svg_contents contents labels = record {
+  strokes = contents.shapes.strokes;
+  areas = contents.shapes.areas;
+  labels = labels;
+  images = contents.images;
+}
 
--- the DXF of the same: with layers for each sheet, if one ends
+-- the SVG of these, among whose strokes and images sheets end there: with a group for each sheet, if one ends
+abbrev pub svg_of : Page → PenSet → ContentList → List ℕ → List ℕ → List LabelShape → List ℕ
+svg_of page pens contents ends image_ends labels =
+    if nat_eq (length ends) 0 then svg_document page pens (svg_contents contents labels) else
+    sheets_document page pens (svg_contents contents labels) ends image_ends
+
+-- what a view of a sheet has
+abbrev pub contents_seen : SheetView → ContentList
+contents_seen view = record {
+  shapes = record { strokes = view.strokes.now; areas = areas_in view.areas };
+  images = images_in view.images;
+}
+
+-- the DXF of strokes, areas and labels: with layers for each sheet, if one ends
 abbrev pub dxf_of : Page → PenSet → List Segment → List Area → List ℕ → List LabelShape → List ℕ
 dxf_of page pens strokes areas ends labels =
     if nat_eq (length ends) 0 then dxf_bytes page pens strokes areas labels else
@@ -63,11 +82,13 @@ IsPdf naming page pens strokes areas ends labels document =
     × (document ≡ pdf_bytes naming.version.now (title_kept naming.title.now) page (pens_drawn pens strokes)
     (rows_shown pens strokes labels) pages streams)
 
--- a document of shapes and labels in a format
-abbrev pub IsVector : VectorFormat → Naming → Page → PenSet → ShapeList → List ℕ → List LabelShape → List ℕ → Type 0
-IsVector Svg naming page pens shapes ends labels document = document ≡ svg_of page pens shapes.strokes shapes.areas ends labels
-IsVector Pdf naming page pens shapes ends labels document = IsPdf naming page pens shapes.strokes shapes.areas ends labels document
-IsVector Dxf naming page pens shapes ends labels document = document ≡ dxf_of page pens shapes.strokes shapes.areas ends labels
+-- a document of what is drawn, with these labels, in a format. Only an SVG has images
+abbrev pub IsVector : VectorFormat → Naming → Page → PenSet → ContentList → List ℕ → List ℕ → List LabelShape → List ℕ → Type 0
+IsVector Svg naming page pens contents ends image_ends labels document = document ≡ svg_of page pens contents ends image_ends labels
+IsVector Pdf naming page pens contents ends image_ends labels document =
+    IsPdf naming page pens contents.shapes.strokes contents.shapes.areas ends labels document
+IsVector Dxf naming page pens contents ends image_ends labels document =
+    document ≡ dxf_of page pens contents.shapes.strokes contents.shapes.areas ends labels
 
 -- the fault that says so
 abbrev pub is_letters : Fault → Bool
@@ -96,9 +117,10 @@ labels_written choice drawing sheet = if has_text choice then labels_on drawing 
 -- no rows, and its bytes are not counted
 pub record WritesVector (job : VectorJob) (naming : Naming) (drawing : Drawing) (sheet : ℕ) (sink sink' : SinkState)
     (answer : Result Outcome Fault) : Type 0 where
-  pub puts : PutsVector (IsVector job.format naming drawing.page job.pens (shapes_on drawing sheet)
-      (ends_of sheet drawing.lines.ends.items) (labels_written job.labels drawing sheet)) sink sink' answer
+  pub puts : PutsVector (IsVector job.format naming drawing.page job.pens (contents_on drawing sheet)
+      (ends_of sheet drawing.lines.ends.items) (ends_of sheet drawing.lines.image_ends.items)
+      (labels_written job.labels drawing sheet)) sink sink' answer
   pub letters : (answer ≡ Err Letters) ↔ (has_too_many_letters job.format (labels_written job.labels drawing sheet) ≡ true)
   pub rows : IfOk answer (λ outcome. outcome.done.rows ≡ 0)
   pub bytes : IfOk answer (λ outcome. outcome.done.bytes ≡ 0)
-  pub tells : IfOk answer (TellsOf drawing job.pens (shapes_on drawing sheet))
+  pub tells : IfOk answer (TellsOf drawing job.pens (contents_on drawing sheet))

@@ -86,7 +86,7 @@ pub(crate) fn convert_given<G: Gauge, S: Source, K: Sink>(
     let drawing = draw(alloc, &request, source)?;
     let shown = Shown {
         drawing: &drawing,
-        shapes: drawing.shapes_on(0),
+        contents: drawing.contents_on(0),
         choice: PageChoice::GIVEN,
     };
     match write_shapes(alloc, shown, job, rows, gauge, sink, &mut Unwatched) {

@@ -11,6 +11,8 @@ pub struct Done {
     pub strokes: usize,
     /// How many areas it has, in the profile full; those of pens that are not drawn are among them.
     pub areas: usize,
+    /// How many images it has, in the profile full.
+    pub images: usize,
     /// How many notes there are on the plot.
     pub notes: usize,
 }

@@ -67,7 +67,7 @@ pub fn write<G: Gauge, K: Sink, W: Watcher>(
 {
     let shown = Shown {
         drawing,
-        shapes: drawing.shapes_on(sheet),
+        contents: drawing.contents_on(sheet),
         choice: request.setup.choice,
     };
     let mut sink = sink;

@@ -3,31 +3,39 @@ ghost use Rattle.std.specs.Prelude.{◌≡◌, ◌≤◌, ℕ, List, length, tru
 ghost use Rattle.areas.specs.Views.{shapes_in};
 ghost use Rattle.carousel.specs.declared.carousel.Carousel.{Carousel};
 ghost use Rattle.plot_size.specs.Sizes.{longest_side, sides_asked};
+ghost use Rattle.image_places.specs.Moves.{are_images_movable};
 ghost use Rattle.page_fit.specs.Around.{corner_around};
 ghost use Rattle.page_fit.specs.Extents.{IsNear};
 ghost use Rattle.page_fit.specs.Moves.{IsCornerNear, are_movable};
 ghost use Rattle.plot_page.specs.declared.stroke.TheConstants.{MOST_STROKES};
 ghost use Rattle.plot_report.specs.Report.{report_page};
+ghost use Rattle.plot_report.specs.declared.report.TheConstants.{MOST_NOTES};
+ghost use Rattle.page_images.specs.Views.{images_in};
+ghost use Rattle.rows.specs.Contents.{contents_in};
 ghost use Rattle.conversion.specs.Drawings.{AreLinesOf, AreMoved, IsReasonOnFirst, place_of};
 ghost use Rattle.conversion.specs.Placements.{IsAsked, IsDrawnOn, IsFitted, IsPlaced};
-ghost use Rattle.conversion.specs.Placements.{page_reported, place_on, placed_rules, reported_at};
+ghost use Rattle.conversion.specs.Placements.{can_be_moved, contents_extent, contents_of, page_reported, place_on, placed_rules, reported_at};
 ghost use Rattle.conversion.specs.Rules.{rules_in, rules_with};
-ghost use Rattle.conversion.specs.Sheets.{shapes_on};
+ghost use Rattle.conversion.specs.Sheets.{contents_on, images_on, shapes_on};
 
 use crate::as_read::draw_as;
 use crate::lines::Lines;
 use crate::placement::Placement;
 use crate::setup::Setup;
+use crate::sheet_images::images_of;
 use areas::Shapes;
 use full_plot::{areas_on, sheet_of};
 use hpgl_plot::PlotFault;
 use hpgl_text::Profile;
+use image_places::{are_images_movable, extent_with_images, move_images};
 use labels::move_labels;
 use page_fit::{Corner, Extent, are_movable, corner_around, extent_of, move_strokes, page_around};
+use page_images::PageImages;
 use picture_job::Reading;
-use plot_page::{Page, PenSet, Stroke};
+use plot_page::{Page, PenSet};
 use plot_report::ReportPage;
 use plot_size::{longest_side, page_asked};
+use rows::Contents;
 use std::alloc::Global;
 
 // The corner of a page, from itself.
@@ -53,7 +61,7 @@ pub struct Drawing {
 }
 
 impl Drawing {
-    /// How many sheets of the plot have strokes in the profile full; in core this is not counted, and 0.
+    /// How many sheets of the plot have strokes or images in the profile full; in core this is not counted, and 0.
     pub fn sheets(&self) -> usize
         ensures { result ≡ self.now.lines.sheets }
     {
@@ -71,6 +79,33 @@ impl Drawing {
         Shapes {
             strokes: sheet_of(strokes, ends, sheet),
             areas: areas_on(areas, ends, strokes.len(), sheet),
+        }
+    }
+
+    /// The images among these shapes.
+    pub(crate) fn images_on(&self, sheet: u32) -> PageImages<'_>
+        ensures images { images_in result ≡ images_on self.now sheet }
+        ensures few { length result.list.now ≤ MOST_NOTES }
+    {
+        let lines = &self.lines;
+        images_of(
+            lines.images.as_slice(),
+            lines.image_ends.as_slice(),
+            lines.ends.as_slice(),
+            lines.strokes.len(),
+            sheet,
+        )
+    }
+
+    /// All that is on a sheet.
+    pub(crate) fn contents_on(&self, sheet: u32) -> Contents<'_>
+        ensures contents { contents_in result ≡ contents_on self.now sheet }
+        ensures few { length result.shapes.strokes.now ≤ MOST_STROKES }
+        ensures few_images { length result.images.list.now ≤ MOST_NOTES }
+    {
+        Contents {
+            shapes: self.shapes_on(sheet),
+            images: self.images_on(sheet),
         }
     }
 }
@@ -166,15 +201,15 @@ fn unmoved(placement: Placement, page: Page, lines: Lines) -> Drawing
 fn fitted(longest: u32, margin: u32, pens: PenSet, page: Page, lines: Lines) -> Drawing
     requires { longest ≤ 524288 }
     ensures drawn_on { result.drawn_on ≡ page }
-    ensures fitted { IsFitted longest pens margin page (record { strokes = lines.strokes.items; areas = lines.areas.items })
+    ensures fitted { IsFitted longest pens margin page (contents_of lines)
         result.placement result.corner result.page }
     ensures named { result.named ≡ page_reported (place_of result) }
     ensures lines { AreMoved pens lines (place_of result) result.lines }
 {
-    let Some(extent) = extent_of(lines.shapes(), pens, &page) else {
+    let Some(extent) = extent(&lines, pens, &page) else {
         return unmoved(Placement::Blank, page, lines);
     };
-    let Some(corner) = corner_of(margin, pens, extent, lines.strokes.as_slice()) else {
+    let Some(corner) = corner_of(margin, pens, extent, &lines) else {
         return unmoved(Placement::TooLarge, page, lines);
     };
     let Some(around) = page_around(longest, margin, extent) else {
@@ -183,16 +218,27 @@ fn fitted(longest: u32, margin: u32, pens: PenSet, page: Page, lines: Lines) -> 
     moved(pens, page, corner, around, lines)
 }
 
-// The corner of the page around strokes that are seen so far, if all strokes can be moved to it.
-fn corner_of(margin: u32, pens: PenSet, extent: Extent, strokes: &[Stroke]) -> Option<Corner>
+// How far the shapes of the selected pens, and the images, are seen on the page that they are drawn on, if anything is.
+fn extent(lines: &Lines, pens: PenSet, page: &Page) -> Option<Extent>
+    ensures value { result ≡ contents_extent pens page.now (contents_of lines.now) }
+    ensures near { IfSome result IsNear }
+{
+    let found = extent_of(lines.shapes(), pens, page);
+    extent_with_images(found, lines.images.as_slice(), page)
+}
+
+// The corner of the page around lines that are seen so far, if all of them can be moved to it.
+fn corner_of(margin: u32, pens: PenSet, extent: Extent, lines: &Lines) -> Option<Corner>
     requires { IsNear extent }
     ensures corner { IfSome result (λ corner. corner ≡ corner_around margin extent) }
     ensures near { IfSome result IsCornerNear }
-    ensures movable { IfSome result (λ corner. are_movable pens corner strokes.now ≡ true) }
-    ensures none { IfNone result (are_movable pens (corner_around margin extent) strokes.now ≡ false) }
+    ensures movable { IfSome result (λ corner. are_movable pens corner lines.now.strokes.items ≡ true) }
+    ensures images { IfSome result (λ corner. are_images_movable corner lines.now.images.items ≡ true) }
+    ensures none { IfNone result (can_be_moved pens (corner_around margin extent) lines.now ≡ false) }
 {
     let corner = corner_around(margin, extent);
-    if are_movable(strokes, &pens, corner) {
+    let strokes = lines.strokes.as_slice();
+    if are_movable(strokes, &pens, corner) && are_images_movable(lines.images.as_slice(), corner) {
         Some(corner)
     } else {
         None
@@ -203,6 +249,7 @@ fn corner_of(margin: u32, pens: PenSet, extent: Extent, strokes: &[Stroke]) -> O
 fn moved(pens: PenSet, page: Page, corner: Corner, around: Page, lines: Lines) -> Drawing
     requires near { IsCornerNear corner }
     requires movable { are_movable pens corner lines.strokes.items ≡ true }
+    requires images { are_images_movable corner lines.images.items ≡ true }
     ensures place { place_of result ≡ record {
       placement = Placement.Fitted;
       drawn_on = page;
@@ -214,6 +261,7 @@ fn moved(pens: PenSet, page: Page, corner: Corner, around: Page, lines: Lines) -
 {
     let mut lines = lines;
     move_strokes(lines.strokes.as_mut_slice(), &pens, &page, corner, &around);
+    move_images(lines.images.as_mut_slice(), &page, corner, &around);
     move_labels(lines.labels.as_mut_slice(), corner);
     Drawing {
         placement: Placement::Fitted,

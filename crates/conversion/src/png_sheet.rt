@@ -1,6 +1,6 @@
 //! The PNG of shapes of a drawing.
 ghost use Rattle.std.specs.Prelude.{◌≡◌, ◌+◌, ◌-◌, ◌^◌, ◌<◌, ◌≤◌, IfErr, true, false};
-ghost use Rattle.areas.specs.Views.{shapes_in};
+ghost use Rattle.rows.specs.Contents.{contents_in};
 ghost use Rattle.conversion.specs.Conversions.{is_write};
 ghost use Rattle.conversion.specs.PageJobs.{is_png_possible_in, png_on_page, png_rows_on};
 ghost use Rattle.rows.specs.Documents.{png_boxes};
@@ -31,10 +31,10 @@ pub(crate) fn write_png_shapes<G: Gauge, K: Sink, W: Watcher>(
 ) -> (K, Result<Outcome, Fault>)
     requires possible { is_png_possible_in shown.choice.pixels job.now ≡ true }
     requires sinking { (K.state sink).faults < 2 ^ 64 - 1 }
-    ensures writes { WritesPng shown.entry.choice job.now shown.entry.drawing.now (shapes_in shown.entry.shapes)
+    ensures writes { WritesPng shown.entry.choice job.now shown.entry.drawing.now (contents_in shown.entry.contents)
         (G.reaches gauge.old) (K.state sink) (K.state result.0) result.1 }
     ensures tests { G.count gauge.new ≤ G.count gauge.old
-        + png_boxes (png_on_page shown.entry.choice shown.entry.drawing.now.page job.now) shown.entry.shapes.strokes.now }
+        + png_boxes (png_on_page shown.entry.choice shown.entry.drawing.now.page job.now) shown.entry.contents.shapes.strokes.now }
     ensures same { G.reaches gauge.new ≡ G.reaches gauge.old }
     ensures told { IsTold is_write W.hears (png_rows_on shown.entry.choice shown.entry.drawing.now.page job.now)
         watcher.old watcher.new result.1 }
@@ -45,11 +45,11 @@ pub(crate) fn write_png_shapes<G: Gauge, K: Sink, W: Watcher>(
     if has_too_many_pixels(&page, job.dots) {
         return (sink, Err(Fault::Pixels));
     }
-    let (sink, painted) = paint_png(alloc, &job, shown.shapes, gauge, sink, watcher);
+    let (sink, painted) = paint_png(alloc, &job, shown.contents, gauge, sink, watcher);
     match painted {
         Ok(()) => {
             let rows = job.dots.rows(&page);
-            let outcome = outcome_of(shown.drawing, job.pens, shown.shapes, rows, 0);
+            let outcome = outcome_of(shown.drawing, job.pens, shown.contents, rows, 0);
             (sink, Ok(outcome))
         }
         Err(fault) => (sink, Err(Fault::from(fault))),

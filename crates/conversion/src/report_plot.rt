@@ -1,13 +1,14 @@
 //! The report: a plot is read, drawn and described.
 ghost use Rattle.std.specs.Prelude.{◌≡◌, ◌-◌, ◌+◌, ◌^◌, ◌<◌, ◌≤◌, IfOk, IfErr, false, length};
 ghost use Rattle.std.specs.Io.KnownBytes.{IsAtEnd};
-ghost use Rattle.areas.specs.Views.{shapes_in};
+ghost use Rattle.plot_report.specs.declared.report.TheConstants.{MOST_NOTES};
+ghost use Rattle.rows.specs.Contents.{contents_in};
 ghost use Rattle.plot_page.specs.declared.stroke.TheConstants.{MOST_STROKES};
 ghost use Rattle.hpgl_text.specs.declared.program.TheConstants.{LONGEST_PLOT};
 ghost use Rattle.devices.specs.Sinks.{Writes};
 ghost use Rattle.conversion.specs.Conversions.{is_write};
 ghost use Rattle.conversion.specs.Rules.{rules_in};
-ghost use Rattle.conversion.specs.Reports.{HasReported, HasReportedOn, WritesReport, report_on};
+ghost use Rattle.conversion.specs.Reports.{HasReported, HasReportedOn, WritesReport, report_of_contents};
 
 use crate::done::Done;
 use crate::drawing::read_and_draw;
@@ -16,14 +17,14 @@ use crate::outcome::Outcome;
 use crate::place::Drawing;
 use crate::setup::Setup;
 use crate::sheet::outcome_of;
-use areas::Shapes;
 use carousel::Carousel;
 use devices::{Sink, Source, WriteFault};
 use full_notes::FullNotes;
 use hpgl_plot::Notes;
 use picture_job::{PageChoice, Reading};
 use plot_page::{Page, PenSet};
-use plot_report::{ReportPage, write_full_report, write_report};
+use plot_report::{write_full_report, write_report};
+use rows::Contents;
 use std::alloc::Global;
 use turning::Turn;
 
@@ -108,16 +109,9 @@ fn report_drawing<K: Sink>(
     ensures writes { WritesReport reading pens drawing.now plot.now (K.state sink.old) (K.state sink.new) result }
     ensures untouched { IfErr result (λ fault. is_write fault ≡ false → sink.new ≡ sink.old) }
 {
-    let shapes = drawing.shapes_on(0);
-    match write_as(
-        reading,
-        drawing.named,
-        shapes,
-        drawing.lines.sheets,
-        plot,
-        sink,
-    ) {
-        Ok(bytes) => Ok(outcome_of(drawing, pens, shapes, 0, bytes)),
+    let contents = drawing.contents_on(0);
+    match write_as(reading, drawing, contents, plot, sink) {
+        Ok(bytes) => Ok(outcome_of(drawing, pens, contents, 0, bytes)),
         Err(fault) => Err(Fault::Write {
             row: 0,
             whole: 0,
@@ -126,26 +120,37 @@ fn report_drawing<K: Sink>(
     }
 }
 
-// Writes the report on a plot that is read so, by its shapes and sheets.
+// Writes the report on a plot that is read so, by what is drawn of it.
 fn write_as<K: Sink>(
     reading: Reading,
-    page: ReportPage,
-    shapes: Shapes<'_>,
-    sheets: usize,
+    drawing: &Drawing,
+    contents: Contents<'_>,
     plot: &[u8],
     sink: &mut K,
 ) -> Result<u64, WriteFault>
     requires sinking { (K.state sink.old).faults < 2 ^ 64 - 1 }
-    requires strokes { length shapes.strokes.now ≤ MOST_STROKES }
+    requires strokes { length contents.shapes.strokes.now ≤ MOST_STROKES }
+    requires images { length contents.images.list.now ≤ MOST_NOTES }
     requires plot { length plot.now ≤ LONGEST_PLOT }
     ensures writes { Writes (K.state sink.old) (K.state sink.new)
-        (report_on reading page (shapes_in shapes.entry) sheets plot.now) result }
-    ensures count { IfOk result (λ n. n ≡ length (report_on reading page (shapes_in shapes.entry) sheets plot.now)) }
+        (report_of_contents reading drawing.now (contents_in contents.entry) plot.now) result }
+    ensures count { IfOk result (λ n. n ≡ length (report_of_contents reading drawing.now (contents_in contents.entry) plot.now)) }
 {
+    let page = drawing.named;
+    let shapes = contents.shapes;
     match reading {
         Reading::Core => write_report(page, shapes.strokes, Notes::new(plot), sink),
         Reading::Full { .. } => {
-            write_full_report(page, sheets, shapes, FullNotes::new(plot), sink)
+            let lines = &drawing.lines;
+            let notes = FullNotes::new(plot, lines.told.as_slice());
+            write_full_report(
+                page,
+                lines.sheets,
+                shapes,
+                contents.images.list,
+                notes,
+                sink,
+            )
         }
     }
 }

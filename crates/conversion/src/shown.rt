@@ -1,16 +1,16 @@
-//! Shapes of a drawing that a picture shows.
+//! What a picture shows of a drawing.
 ghost use Rattle.std.specs.Prelude.{◌≤◌, length};
 ghost use Rattle.plot_page.specs.declared.stroke.TheConstants.{MOST_STROKES};
 
 use crate::place::Drawing;
-use areas::Shapes;
 use picture_job::PageChoice;
+use rows::Contents;
 
-/// Shapes of a drawing that a picture shows, and how the page was chosen.
+/// What a picture shows of a drawing, and how the page was chosen.
 #[derive(Clone, Copy)]
 pub(crate) struct Shown<'a> {
     pub(crate) drawing: &'a Drawing,
-    pub(crate) shapes: Shapes<'a>,
+    pub(crate) contents: Contents<'a>,
     pub(crate) choice: PageChoice,
-    pub(crate) ghost few: { length shapes.strokes.now ≤ MOST_STROKES },
+    pub(crate) ghost few: { length contents.shapes.strokes.now ≤ MOST_STROKES },
 }

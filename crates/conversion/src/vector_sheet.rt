@@ -7,10 +7,9 @@ ghost use Rattle.pdf.specs.declared.counts.TheConstants.{MOST_LETTERS};
 ghost use Rattle.plot_page.specs.declared.stroke.TheConstants.{MOST_STROKES};
 ghost use Rattle.conversion.specs.Conversions.{is_write};
 ghost use Rattle.conversion.specs.Rules.{ends_of};
-ghost use Rattle.conversion.specs.Vectors.{IsPdf, IsVector, PutsVector, WritesVector, dxf_of, has_too_many_letters, is_letters, labels_written, svg_of, title_kept};
+ghost use Rattle.conversion.specs.Vectors.{IsPdf, IsVector, PutsVector, WritesVector, contents_seen, dxf_of, has_too_many_letters, is_letters, labels_written, svg_of, title_kept};
 
 use crate::fault::Fault;
-use crate::lines::Lines;
 use crate::naming::{MOST_CHARACTERS, Naming};
 use crate::outcome::Outcome;
 use crate::page_ends::page_ends;
@@ -47,8 +46,10 @@ pub fn write_vector_sheet<K: Sink>(
     ensures untouched { IfErr result (λ fault. is_write fault ≡ false → sink.new ≡ sink.old) }
 {
     let lines = &drawing.lines;
-    let shapes = drawing.shapes_on(sheet);
-    let ends = ends_in(lines, sheet);
+    let contents = drawing.contents_on(sheet);
+    let shapes = contents.shapes;
+    let ends = ends_in(lines.ends.as_slice(), sheet);
+    let image_ends = ends_in(lines.image_ends.as_slice(), sheet);
     let (labels, before) = labels_written(job.labels, drawing, sheet);
     let view = SheetView {
         page: &drawing.page,
@@ -57,13 +58,14 @@ pub fn write_vector_sheet<K: Sink>(
         areas: shapes.areas,
         labels,
         before,
+        images: contents.images,
     };
     match job.format {
-        VectorFormat::Svg => put_svg(alloc, &view, ends, sink)?,
+        VectorFormat::Svg => put_svg(alloc, &view, ends, image_ends, sink)?,
         VectorFormat::Pdf => put_pdf(alloc, naming, &view, ends, sink)?,
         VectorFormat::Dxf => put_dxf(&view, ends, sink)?,
     }
-    Ok(outcome_of(drawing, job.pens, shapes, 0, 0))
+    Ok(outcome_of(drawing, job.pens, contents, 0, 0))
 }
 
 // The labels of a sheet that are written, and how many strokes come before the sheet: none if labels are strokes only.
@@ -83,27 +85,24 @@ fn labels_written(labels: LabelChoice, drawing: &Drawing, sheet: u32) -> (&[Labe
 }
 
 // Where sheets end in what is drawn of a sheet: nowhere, unless it is all.
-fn ends_in(lines: &Lines, sheet: u32) -> &[usize]
-    ensures { result.now ≡ ends_of sheet lines.now.ends.items }
+fn ends_in(ends: &[usize], sheet: u32) -> &[usize]
+    ensures { result.now ≡ ends_of sheet ends.now }
 {
-    if sheet == 0 {
-        lines.ends.as_slice()
-    } else {
-        &[]
-    }
+    if sheet == 0 { ends } else { &[] }
 }
 
-// Writes the SVG of what is shown, among whose strokes sheets end there.
+// Writes the SVG of what is shown, among whose strokes and images sheets end there.
 fn put_svg<K: Sink>(
     alloc: Global,
     view: &SheetView<'_>,
     ends: &[usize],
+    image_ends: &[usize],
     sink: &mut K,
 ) -> Result<(), Fault>
     requires few { length view.now.strokes.now ≤ MOST_STROKES }
     requires sinking { (K.state sink.old).faults < 2 ^ 64 - 1 }
-    ensures puts { PutsVector (λ document. document ≡ svg_of view.now.page.now view.now.pens.now view.now.strokes.now
-        (areas_in view.now.areas) ends.now (all_counted view.now.before view.now.labels.now))
+    ensures puts { PutsVector (λ document. document ≡ svg_of view.now.page.now view.now.pens.now (contents_seen view.now)
+        ends.now image_ends.now (all_counted view.now.before view.now.labels.now))
         (K.state sink.old) (K.state sink.new) result }
     ensures letters { IfErr result (λ fault. is_letters fault ≡ false) }
     ensures untouched { IfErr result (λ fault. is_write fault ≡ false → sink.new ≡ sink.old) }
@@ -112,7 +111,7 @@ fn put_svg<K: Sink>(
     let written = if ends.is_empty() {
         write_svg(view, &clips, sink)
     } else {
-        write_svg_sheets(view, ends, &clips, sink)
+        write_svg_sheets(view, ends, image_ends, &clips, sink)
     };
     match written {
         Ok(_) => Ok(()),

@@ -18,7 +18,7 @@ use Rattle.hpgl_plot.specs.declared.note.NoteKind.TheVariants.{Bad}
 use Rattle.hpgl_plot.specs.Notes.{notes_with, note_at, open_noted, entry_note, entries_in}
 use Rattle.hpgl_plot.proofs.NoteCounts.{IsFew, few_at, few_on_stray, notes_by}
 use Rattle.full_notes.specs.Contexts.{Context, first_context}
-use Rattle.full_notes.specs.Notes.{body_noted, context_after, notes_from, notes}
+use Rattle.full_notes.specs.Notes.{context_after, item_noted, notes_from, notes_told, told_after}
 
 -- there are no more than if something were noted at the first byte of each item
 abbrev always : BodyShape → Option NoteKind
@@ -33,17 +33,18 @@ most_on own i =
     let rest = flat_map (entry_note i.code) (entries_in i.body) ++ note_at i.code i.at (open_noted i.unended) in
     omega (arith, length-append (note_at i.code i.at own) rest, one_at i.code i.at own)
 
-most_from : (c : Context) (items : List ItemShape) → length (notes_from c items) ≤ length (flat_map (notes_by always) items)
-most_from c [] = omega arith
-most_from c (i ∷ more) =
-    let own = body_noted c i.body in
+most_from : (c : Context) (told : List (Option NoteKind)) (items : List ItemShape) → length (notes_from c told items) ≤ length (flat_map (notes_by always) items)
+most_from c told [] = omega arith
+most_from c told (i ∷ more) =
+    let own = item_noted c told i.body in
     let after = context_after c i.body in
+    let others = told_after told i.body in
     omega (
       arith,
-      length-append (notes_with own i) (notes_from after more),
+      length-append (notes_with own i) (notes_from after others more),
       length-append (notes_by always i) (flat_map (notes_by always) more),
       most_on own i,
-      most_from after more,
+      most_from after others more,
     )
 
 -- an item has no more notes than bytes
@@ -78,5 +79,5 @@ few_from (suc n) plot language t at = elim (stepped n plot language t at) [
       )))
 ]
 
-pub few_notes : (plot : List ℕ) → length (notes (full_cut plot)) ≤ length plot
-few_notes plot = omega (arith, most_from first_context (full_cut plot), few_from (length plot) plot Hpgl2 first_terminator 0)
+pub few_notes : (told : List (Option NoteKind)) (plot : List ℕ) → length (notes_told told (full_cut plot)) ≤ length plot
+few_notes told plot = omega (arith, most_from first_context told (full_cut plot), few_from (length plot) plot Hpgl2 first_terminator 0)

@@ -2,4 +2,3 @@ mod NoteExamples
 pub mod ReadNumbers
 pub mod Noted
 pub mod FewNotes
-mod AskedTogether

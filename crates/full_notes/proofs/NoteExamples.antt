@@ -1,19 +1,19 @@
 -- What is noted on small plots in the profile full, by their text.
-use Rattle.std.proofs.Common.{◌≡◌, ℕ, List, [], ◌∷◌, ◌++◌, refl, map}
+use Rattle.std.proofs.Common.{◌≡◌, ℕ, List, [], ◌∷◌, ◌++◌, refl, map, Option, Some, None}
 use Rattle.std.specs.Prelude.{codes}
 use Rattle.escapes.specs.Escapes.{chain}
 use Rattle.full_text.specs.Cut.{full_cut}
 use Rattle.hpgl_plot.specs.declared.note.Note.{Note}
 use Rattle.hpgl_plot.specs.declared.note.NoteKind.{NoteKind}
 use Rattle.hpgl_plot.specs.declared.note.NoteKind.TheVariants.{Skipped, Bad, Stray, Open}
-use Rattle.full_notes.specs.Notes.{notes}
+use Rattle.full_notes.specs.Notes.{notes_told}
 
 -- a table of examples: each input has its output
 abbrev Table : {X Y : Type 0} → (X → Y) → List (X × Y) → Type 0
 Table f rows = map (λ it. f it.0) rows ≡ map (λ it. it.1) rows
 
 abbrev noted : List ℕ → List Note
-noted plot = notes (full_cut plot)
+noted plot = notes_told [] (full_cut plot)
 
 -- a note on the item at a place
 abbrev note : ℕ → List ℕ → NoteKind → Note
@@ -68,14 +68,14 @@ esc = 27 ∷ []
 abbrev escape_note : ℕ → NoteKind → Note
 escape_note at kind = record { at = at; code = 27 ∷ 0 ∷ []; kind = kind }
 
-escapes : Table noted (
-    (esc ++ codes "*c5P" ++ esc ++ codes "*t5R" ++ esc ++ codes "&u9D", escape_note 0 Skipped ∷ escape_note 5 Bad ∷ escape_note 10 Bad ∷ [])  -- a command that is not known, and numbers out of range
-    ∷ (esc ++ codes "*r9a1G" ++ esc ++ codes "*r1g4U", escape_note 0 Bad ∷ escape_note 7 Bad ∷ [])  -- one note an escape, bad before skipped
-    ∷ (esc ++ codes "*b5M" ++ esc ++ codes "*b3m8M", escape_note 0 Skipped ∷ escape_note 5 Skipped ∷ [])  -- compressions that are not known
-    ∷ (esc ++ codes "(s3B" ++ esc ++ codes "9" ++ esc ++ codes "*r1A" ++ esc ++ codes "&l0H" ++ esc ++ codes "E", [])  -- nothing to note
-    ∷ (esc ++ codes "%0A" ++ (12 ∷ []) ++ esc ++ codes "%0B" ++ (12 ∷ []), note 9 (0 ∷ 0 ∷ []) (Stray 12) ∷ [])  -- a form feed of HP RTL, and one between instructions
-    ∷ (esc ++ codes "*b1V." ++ esc ++ codes "%0BIN;" ++ esc ++ codes "*b1v.1W.", escape_note 0 Skipped ∷ [])  -- images are not drawn: the first data
-    ∷ (esc ++ codes "*t5R" ++ esc ++ codes "*b1w.5M" ++ esc ++ codes "*b1W.", escape_note 0 Bad ∷ escape_note 5 Skipped ∷ [])  -- the first data, with another reason
+-- escapes, of which it is told, among instructions and form feeds; nothing is noted on those of which it is not
+abbrev noted_by : List (Option NoteKind) × List ℕ → List Note
+noted_by it = notes_told it.0 (full_cut it.1)
+
+escapes : Table noted_by (
+    ((Some Skipped ∷ None ∷ Some Bad ∷ [], esc ++ codes "*c5P" ++ esc ++ codes "E" ++ esc ++ codes "*t5R"), escape_note 0 Skipped ∷ escape_note 7 Bad ∷ [])
+    ∷ ((Some Bad ∷ [], codes "PA1;" ++ esc ++ codes "9PA2;" ++ esc ++ codes "9"), note 0 (codes "PA") Bad ∷ escape_note 4 Bad ∷ note 6 (codes "PA") Bad ∷ [])
+    ∷ ((None ∷ Some Skipped ∷ [], esc ++ codes "%0A" ++ (12 ∷ []) ++ esc ++ codes "%0B" ++ (12 ∷ [])), escape_note 5 Skipped ∷ note 9 (0 ∷ 0 ∷ []) (Stray 12) ∷ [])
     ∷ [])
 unfolding chain
 escapes = refl

@@ -15,22 +15,16 @@ use Rattle.full_settings.specs.ColourRanges.{usual_ranges}
 use Rattle.full_settings.specs.FurtherRequests.{further_request}
 use Rattle.full_settings.specs.PolygonParameters as polygons
 
--- whether widths are in percent, the ranges of colours, whether polygon mode is on, whether chords have the usual angle, and
--- whether data of an image have come
+-- whether widths are in percent, the ranges of colours, whether polygon mode is on, and whether chords have the usual angle
 pub record Context : Type 0 where
   pub in_percent : Bool
   pub ranges : ColourRanges
   pub in_polygon : Bool
   pub usual_chords : Bool
-  pub has_image : Bool
 
--- at the start
+-- at the start, and after IN and BP
 abbrev pub first_context : Context
-first_context = record { in_percent = false; ranges = usual_ranges; in_polygon = false; usual_chords = false; has_image = false }
-
--- after IN and BP, which leave images
-abbrev pub restarted : Context → Context
-restarted c = record first_context { has_image = c.has_image }
+first_context = record { in_percent = false; ranges = usual_ranges; in_polygon = false; usual_chords = false }
 
 -- in polygon mode nothing is filled, no figure but a circle is drawn, and nothing is written
 abbrev pub is_bad_further : further.Further → Bool

@@ -1,5 +1,5 @@
 -- What is noted on the items of a plot in the profile full.
-use Rattle.std.specs.Prelude.{ℤ, Bool, true, false, not, ◌||◌, if◌then◌else◌, List, [], ◌∷◌, ◌++◌, Option, Some, None}
+use Rattle.std.specs.Prelude.{ℤ, Bool, true, false, not, if◌then◌else◌, List, [], ◌∷◌, ◌++◌, Option, Some, None}
 use Rattle.hpgl_text.specs.Shapes.{ItemShape, BodyShape, Params}
 use Rattle.hpgl_text.specs.Shapes as shape
 use Rattle.hpgl_text.specs.declared.instruction.Instruction.{Instruction}
@@ -24,8 +24,7 @@ use Rattle.full_settings.specs.CurveParameters.{are_curves}
 use Rattle.full_settings.specs.LetterParameters.{letter_direction}
 use Rattle.full_settings.specs.UserMoves.{are_user_moves}
 use Rattle.full_settings.specs.WidthParameters.{percent_width}
-use Rattle.full_notes.specs.Contexts.{Context, first_context, restarted, read_in, request_in}
-use Rattle.full_notes.specs.Escapes.{escape_asks, escape_noted}
+use Rattle.full_notes.specs.Contexts.{Context, first_context, read_in, request_in}
 
 -- whether widths are in percent after a WU that asks for this, if they were or were not before
 abbrev pub unit_after : Bool → WidthSetting → Bool
@@ -45,12 +44,12 @@ request_after c (request.Width s) = record c { in_percent = unit_after c.in_perc
 request_after c (request.Colours r) = record c { ranges = r }
 request_after c (request.Polygon p) = record c { in_polygon = is_on_after p c.in_polygon }
 request_after c (request.Chords usual) = record c { usual_chords = usual }
-request_after c request.Begin = restarted c
+request_after c request.Begin = first_context
 request_after c _ = c
 
 -- the context after an instruction of core
 abbrev pub params_after : Context → Instruction → Context
-params_after c Initialize = restarted c
+params_after c Initialize = first_context
 params_after c DefaultValues = record c { in_polygon = false; usual_chords = false }
 params_after c _ = c
 
@@ -58,7 +57,6 @@ params_after c _ = c
 abbrev pub after_body : Context → BodyShape → Context
 after_body c (shape.Further f ns) = request_after c (request_in c f ns)
 after_body c (Params instruction ns) = params_after c instruction
-after_body c (shape.Escape taken) = record c { has_image = c.has_image || (escape_asks taken).has_data }
 after_body c _ = c
 
 abbrev pub context_after : Context → BodyShape → Context
@@ -102,17 +100,35 @@ params_noted c instruction ns = parameters_noted instruction ns
 abbrev pub noted_on : Context → BodyShape → Option NoteKind
 noted_on c (shape.Further f ns) = request_noted (request_in c f ns) ns
 noted_on c (Params instruction ns) = params_noted c instruction ns
-noted_on c (shape.Escape taken) = escape_noted c.has_image (escape_asks taken)
 noted_on c body = core.body_noted body
 
 abbrev pub body_noted : Context → BodyShape → Option NoteKind
 body_noted c body = noted_on c (read_in c body)
 
--- the notes on items, in their order, by the context before them
-abbrev pub notes_from : Context → List ItemShape → List Note
-notes_from c [] = []
-notes_from c (i ∷ is) = notes_with (body_noted c i.body) i ++ notes_from (context_after c i.body) is
+-- what is noted on an escape, by what its commands did: that is told, with one answer for each escape, in order
+abbrev pub first_told : List (Option NoteKind) → Option NoteKind
+first_told [] = None
+first_told (noted ∷ told) = noted
 
--- the notes on a plot
-abbrev pub notes : List ItemShape → List Note
-notes items = notes_from first_context items
+abbrev pub item_noted : Context → List (Option NoteKind) → BodyShape → Option NoteKind
+item_noted c told (shape.Escape taken) = first_told told
+item_noted c told body = body_noted c body
+
+-- what is told of the escapes after an item
+abbrev pub others_told : List (Option NoteKind) → List (Option NoteKind)
+others_told [] = []
+others_told (noted ∷ told) = told
+
+abbrev pub told_after : List (Option NoteKind) → BodyShape → List (Option NoteKind)
+told_after told (shape.Escape taken) = others_told told
+told_after told body = told
+
+-- the notes on items, in their order, by the context before them and what is told of their escapes
+abbrev pub notes_from : Context → List (Option NoteKind) → List ItemShape → List Note
+notes_from c told [] = []
+notes_from c told (i ∷ is) =
+    notes_with (item_noted c told i.body) i ++ notes_from (context_after c i.body) (told_after told i.body) is
+
+-- the notes on a plot, by what is told of its escapes
+abbrev pub notes_told : List (Option NoteKind) → List ItemShape → List Note
+notes_told told items = notes_from first_context told items

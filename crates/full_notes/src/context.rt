@@ -1,10 +1,9 @@
 //! What decides how items are read, and what is noted on them.
-ghost use Rattle.std.specs.Prelude.{◌≡◌, ◌||◌};
+ghost use Rattle.std.specs.Prelude.{◌≡◌};
 ghost use Rattle.full_settings.specs.FurtherRequests.{IsFurtherRequest};
-ghost use Rattle.full_notes.specs.Contexts.{first_context, restarted};
+ghost use Rattle.full_notes.specs.Contexts.{first_context};
 ghost use Rattle.full_notes.specs.Notes as notes;
 
-use crate::escapes_asked::EscapeAsks;
 use full_settings::{ColourRanges, FurtherRequest, PolygonStep, WidthSetting};
 use hpgl_text::Instruction;
 use std::marker::Model;
@@ -19,8 +18,6 @@ pub struct Context {
     pub in_polygon: bool,
     /// Whether chords have the usual angle, whatever angle is named.
     pub usual_chords: bool,
-    /// Whether data of an image have come.
-    pub has_image: bool,
 }
 
 impl Model for Context {
@@ -34,7 +31,6 @@ impl Model for Context {
       ranges = c.ranges;
       in_polygon = c.in_polygon;
       usual_chords = c.usual_chords;
-      has_image = c.has_image;
     } };
 
     ghost invariant = { λ c. IsColourRanges c.ranges };
@@ -44,12 +40,11 @@ impl Model for Context {
       ranges = c.ranges;
       in_polygon = c.in_polygon;
       usual_chords = c.usual_chords;
-      has_image = c.has_image;
     } };
 }
 
 impl Context {
-    /// At the start.
+    /// At the start, and after IN and BP.
     pub fn first() -> Context
         ensures { result ≡ first_context }
     {
@@ -58,28 +53,7 @@ impl Context {
             ranges: ColourRanges::usual(),
             in_polygon: false,
             usual_chords: false,
-            has_image: false,
         }
-    }
-
-    // After IN and BP, which leave images.
-    fn restarted(&self) -> Context
-        ensures { result ≡ restarted self.now }
-    {
-        Context {
-            in_percent: false,
-            ranges: ColourRanges::usual(),
-            in_polygon: false,
-            usual_chords: false,
-            has_image: self.has_image,
-        }
-    }
-
-    /// An escape that asks for this becomes part of what has been set.
-    pub fn pass_escape(&mut self, asks: EscapeAsks)
-        ensures { self.new ≡ record self.old { has_image = self.old.has_image || asks.has_data } }
-    {
-        self.has_image = self.has_image || asks.has_data;
     }
 
     /// A further instruction that asks for this becomes part of what has been set.
@@ -96,7 +70,7 @@ impl Context {
                 self.in_polygon = is_on_after(*step, self.in_polygon);
             }
             FurtherRequest::Chords(usual) => self.usual_chords = *usual,
-            FurtherRequest::Begin => *self = self.restarted(),
+            FurtherRequest::Begin => *self = Context::first(),
             _ => {}
         }
     }
@@ -107,7 +81,7 @@ impl Context {
         ensures { self.new ≡ notes.params_after self.old instruction }
     {
         match instruction {
-            Instruction::Initialize => *self = self.restarted(),
+            Instruction::Initialize => *self = Context::first(),
             Instruction::DefaultValues => {
                 self.in_polygon = false;
                 self.usual_chords = false;

@@ -2,13 +2,11 @@
 #![tactic(auto)]
 
 mod context;
-mod escapes_asked;
 mod notes;
 mod noting;
 mod reading;
 
 pub use context::Context;
-pub use escapes_asked::{EscapeAsks, escape_asks, escape_noted};
 pub use notes::FullNotes;
 pub use noting::{bad_without, noted_asked, noted_request, take_note};
 pub use reading::{arc_read, circle_read, is_misplaced, request_read};

@@ -6,7 +6,6 @@ ghost use Rattle.full_notes.specs.Notes as notes;
 ghost use Rattle.full_notes.specs.Notes.{bad_if, bad_without, body_noted, request_noted, width_noted, params_noted};
 
 use crate::context::Context;
-use crate::escapes_asked::{escape_asks, escape_noted};
 use crate::reading::{arc_read, circle_read, is_misplaced, request_read};
 use full_settings::{
     FillSetting, FurtherRequest, InkSetting, are_curves, are_user_moves, colour_in, percent_setting,
@@ -15,7 +14,8 @@ use hpgl_plot::NoteKind;
 use hpgl_text::{Body, Instruction, Item, Numbers};
 use plot_settings::{Request, request_of};
 
-/// What is noted on an item at its first byte, by the context before it, which becomes the one after it.
+/// What is noted on an item at its first byte, by the context before it, which becomes the one after it. Of an escape that
+/// is told, so nothing is noted here.
 pub fn take_note(item: &Item<'_>, context: &mut Context) -> Option<NoteKind>
     ensures noted { result ≡ body_noted context.old item.now.body }
     ensures after { context.new ≡ notes.context_after context.old item.now.body }
@@ -32,12 +32,6 @@ pub fn take_note(item: &Item<'_>, context: &mut Context) -> Option<NoteKind>
         Body::Params(instruction, numbers) => {
             let noted = noted_params(*instruction, numbers, context);
             context.pass_instruction(*instruction);
-            noted
-        }
-        Body::Escape(taken) => {
-            let asks = escape_asks(taken);
-            let noted = escape_noted(asks, context.has_image);
-            context.pass_escape(asks);
             noted
         }
         _ => hpgl_plot::noted_kind(item),

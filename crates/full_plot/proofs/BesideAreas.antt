@@ -1,14 +1,14 @@
 -- No area goes on at a number of strokes at which none did: later areas begin there or after it.
-use Rattle.std.proofs.Common.{◌≤◌, ◌<◌, ℕ, inl, inr, arith, List, [], ◌∷◌, ◌++◌, get_or, nat_lt, All}
+use Rattle.std.proofs.Common.{◌≤◌, ◌<◌, ℕ, Bool, true, false, inl, inr, arith, List, [], ◌∷◌, ◌++◌, get_or, nat_lt, All}
 use Rattle.std.proofs.lemmas.Bool.{cases_Bool}
 use Rattle.std.proofs.lemmas.List.Elements.{All-append, All-cons, All-nil}
 use Rattle.areas.specs.Shapes.{NoneGoesOn}
 use Rattle.areas.specs.declared.area.Area.{Area}
 use Rattle.polygons.specs.declared.lines.Rule.{Rule}
 use Rattle.full_plot.specs.Fills.{area_of}
-use Rattle.full_plot.specs.Machine.{ends_with, last_end}
+use Rattle.full_plot.specs.Drawings.{Ascend}
+use Rattle.full_plot.specs.Sheets.{ends_with}
 use Rattle.full_plot.proofs.AreasInOrder.{AreUpTo, are_within}
-use Rattle.full_plot.proofs.JoinedSheets.{Ascend}
 
 -- an area that goes on at a number of strokes if it is before the area's last edge
 abbrev EndsBy : ℕ → Area → Type 0
@@ -33,14 +33,16 @@ abbrev pub NoneAtEnds : List ℕ → List Area → Type 0
 NoneAtEnds ends areas = All (λ (end : ℕ). NoneGoesOn end areas) ends
 
 -- with one more end, up to which all areas are
-pub none_at_next_end : (ends : List ℕ) (areas : List Area) (count : ℕ) → AreUpTo 0 areas count → NoneAtEnds ends areas
-    → NoneAtEnds (ends_with ends count) areas
-none_at_next_end ends areas count order h =
+pub none_at_next : (ends : List ℕ) (areas : List Area) (count : ℕ) → AreUpTo 0 areas count → NoneAtEnds ends areas
+    → NoneAtEnds (ends ++ count ∷ []) areas
+none_at_next ends areas count order h =
     let P : ℕ → Type 0 = λ (end : ℕ). NoneGoesOn end areas in
-    elim (cases_Bool (nat_lt (last_end ends) count)) [
-      | inl t ↦ rw t (All-append P ends (count ∷ []) h (All-cons P count [] (none_after_all areas count order) (All-nil P)))
-      | inr t ↦ rw t h
-    ]
+    All-append P ends (count ∷ []) h (All-cons P count [] (none_after_all areas count order) (All-nil P))
+
+pub none_at_next_end : (more : Bool) (ends : List ℕ) (areas : List Area) (count : ℕ) → AreUpTo 0 areas count → NoneAtEnds ends areas
+    → NoneAtEnds (ends_with more ends count) areas
+none_at_next_end true ends areas count order h = none_at_next ends areas count order h
+none_at_next_end false ends areas count order h = h
 
 -- ends that ascend are no greater than what they ascend to
 starts_within : (start : ℕ) (ends : List ℕ) (count : ℕ) → Ascend start ends count → start ≤ count

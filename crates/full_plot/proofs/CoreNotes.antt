@@ -18,7 +18,7 @@ use Rattle.full_settings.specs.LetterParameters.{letter_direction, is_vector}
 use Rattle.full_plot.specs.Laws.{is_core_body, IsCoreItem}
 use Rattle.full_notes.proofs.Noted.{vector_noted}
 use Rattle.full_notes.specs.Contexts.{Context, first_context}
-use Rattle.full_notes.specs.Notes.{bad_if, bad_without, body_noted, context_after, params_after, params_noted, notes_from, notes}
+use Rattle.full_notes.specs.Notes.{bad_if, bad_without, body_noted, context_after, item_noted, params_after, params_noted, notes_from, notes_told, told_after}
 
 -- a PC in the usual ranges
 by_colour : (s : Option Setting) → bad_without s ≡ bad_if (sets s).is_wrong
@@ -54,10 +54,21 @@ stays_first (Further f ns) h = absurd (true≢false (sym h))
 stays_first (shape.Escape taken) h = absurd (true≢false (sym h))
 stays_first b h = refl
 
-pub noted_as_in_core : (items : List ItemShape) → All IsCoreItem items → notes items ≡ core.notes items
+-- no item of core is an escape
+told_nothing : (b : BodyShape) → is_core_body b ≡ true → item_noted first_context [] b ≡ core.body_noted b
+told_nothing (shape.Escape taken) h = absurd (true≢false (sym h))
+told_nothing b h = body_as_in_core b h
+
+tells_nothing : (b : BodyShape) → told_after [] b ≡ []
+tells_nothing (shape.Escape taken) = refl
+tells_nothing b = refl
+
+pub noted_as_in_core : (items : List ItemShape) → All IsCoreItem items → notes_told [] items ≡ core.notes items
 noted_as_in_core [] h = refl
 noted_as_in_core (i ∷ more) h =
     let is_core : is_core_body i.body ≡ true = All-head IsCoreItem i more h in
-    ap (λ (own : Option NoteKind). notes_with own i ++ notes_from (context_after first_context i.body) more) (body_as_in_core i.body is_core)
-    ∙ ap (λ (c : Context). core.notes_of i ++ notes_from c more) (stays_first i.body is_core)
+    ap (λ (own : Option NoteKind). notes_with own i ++ notes_from (context_after first_context i.body) (told_after [] i.body) more)
+    (told_nothing i.body is_core)
+    ∙ ap (λ (c : Context). core.notes_of i ++ notes_from c (told_after [] i.body) more) (stays_first i.body is_core)
+    ∙ ap (λ (told : List (Option NoteKind)). core.notes_of i ++ notes_from first_context told more) (tells_nothing i.body)
     ∙ ap (λ (ns : List Note). core.notes_of i ++ ns) (noted_as_in_core more (All-tail IsCoreItem i more h))

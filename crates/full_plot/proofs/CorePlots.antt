@@ -45,9 +45,10 @@ use Rattle.full_settings.specs.declared.letter_setting.LetterSetting.{LetterSett
 use Rattle.full_settings.specs.declared.heading.Heading.TheVariants.{Absolute}
 use Rattle.full_settings.specs.declared.letter_setting.LetterSetting.TheVariants as letter
 use Rattle.full_plot.specs.Items.{as_core, letters_steps, more_steps, params_steps, full_steps, taken}
-use Rattle.full_plot.specs.Worlds.{FullWorld, full_followed, with_core}
+use Rattle.raster_graphics.specs.Machines.{closed}
+use Rattle.full_plot.specs.Worlds.{FullWorld, Graphics, full_followed, no_graphics, with_core}
 use Rattle.full_plot.specs.Machine.{FullStep, Core, Letter, Restart, Restyle, Rewiden, restarted, restyled, rewidened, run, widths_in, with_widths}
-use Rattle.full_plot.specs.Drawings.{full_at_start, full_at_start_with, full_ended, is_too_much, full_runs, refusal_in, strokes_in, ends_in, areas_of}
+use Rattle.full_plot.specs.Drawings.{finished, full_at_start, full_at_start_with, full_ended, is_too_much, full_runs, refusal_in, strokes_in, ends_in, areas_of, images_in, image_closed}
 use Rattle.full_plot.specs.Laws.{core_part, far_refusal, far_refusal_with, is_core_body, IsCoreItem, Draws}
 use Rattle.full_notes.specs.Contexts.{Context, first_context, read_in}
 use Rattle.full_notes.specs.Notes.{context_after}
@@ -140,6 +141,7 @@ like_again d v q h = record {
   no_extra = h.no_extra;
   no_ends = h.no_ends;
   no_areas = h.no_areas;
+  no_escapes = h.no_escapes;
   few = h.few;
   few_places = omega arith;
 }
@@ -163,6 +165,7 @@ with_letters d r v l q led h = record {
   no_extra = h.no_extra;
   no_ends = h.no_ends;
   no_areas = h.no_areas;
+  no_escapes = h.no_escapes;
   few = h.few;
   few_places = h.few_places;
 }
@@ -348,6 +351,14 @@ record EndsLike (r : Result FullWorld PlotFault) (x : Result core.World PlotFaul
   same : core_part r ≡ x
   one_sheet : ends_in r ≡ []
   no_areas : areas_of r ≡ []
+  no_images : images_in r ≡ []
+  closes : (end : ℕ) → finished end r ≡ r
+
+-- without an open image nothing closes
+closes_as_is : (w : FullWorld) (end : ℕ) → w.graphics ≡ no_graphics → finished end (Ok w) ≡ Ok w
+closes_as_is w end e =
+    ap (λ (g : Graphics). image_closed (record w { graphics = g }) end (closed g.machine)) e
+    ∙ ap (λ (g : Graphics). Ok (record w { graphics = g })) (sym e)
 
 not_too_much : (w : FullWorld) → Like w → is_too_much w ≡ w.core.full
 not_too_much w h =
@@ -359,18 +370,18 @@ not_too_much w h =
 
 judged : (full : Bool) (e : PlotFault) (r : Result FullWorld PlotFault) (x : Result core.World PlotFault) → EndsLike r x
     → EndsLike (if full then Err e else r) (if full then Err e else x)
-judged true e r x h = record { same = refl; one_sheet = refl; no_areas = refl }
+judged true e r x h = record { same = refl; one_sheet = refl; no_areas = refl; no_images = refl; closes = λ end. refl }
 judged false e r x h = h
 
 next_item : (at : ℕ) (more : List ItemShape) (o : Option FullWorld) → LikeNow o
     → ((v : FullWorld) → Like v → EndsLike (full_runs v more) (core.runs v.core more))
     → EndsLike (full_ended o at (λ (v : FullWorld). full_runs v more)) (core.ended (core_of o) at (λ (c : core.World). core.runs c more))
-next_item at more None h go = record { same = refl; one_sheet = refl; no_areas = refl }
+next_item at more None h go = record { same = refl; one_sheet = refl; no_areas = refl; no_images = refl; closes = λ end. refl }
 next_item at more (Some v) h go =
     rw (not_too_much v h) (judged v.core.full (fault.TooManyStrokes at) (full_runs v more) (core.runs v.core more) (go v h))
 
 items_run : (w : FullWorld) (items : List ItemShape) → All IsCoreItem items → Like w → EndsLike (full_runs w items) (core.runs w.core items)
-items_run w [] all h = record { same = refl; one_sheet = h.no_ends; no_areas = h.no_areas }
+items_run w [] all h = record { same = refl; one_sheet = h.no_ends; no_areas = h.no_areas; no_images = ap (λ (g : Graphics). g.images) h.no_escapes; closes = λ end. closes_as_is w end h.no_escapes }
 items_run w (i ∷ more) all h =
     let is_core : is_core_body i.body ≡ true = All-head IsCoreItem i more all in
     let one : IsCores (taken w i.body) (core.run w.core (steps_of i)) =
@@ -392,6 +403,7 @@ like_at_start encoding carousel page plain = record {
   no_extra = refl;
   no_ends = refl;
   no_areas = refl;
+  no_escapes = refl;
   few = omega arith;
   few_places = omega arith;
 }
@@ -412,22 +424,23 @@ strokes_told page before items (Ok w) t n = t.1
 strokes_told page before items (Err e) t n = absurd (none-some e (sym n ∙ t))
 
 -- from a world with the core after some steps, and no strokes
-draws_from : (page : Page) (before : List Step) (w : FullWorld) (items : List ItemShape) → w.core ≡ world FARTHEST_END page before [] false → Like w → All IsCoreItem items
-    → Draws (full_runs w items) (refusal_after FARTHEST_END page before 0 items) (strokes_after page before items)
-draws_from page before w items is l all =
+draws_from : (page : Page) (before : List Step) (w : FullWorld) (items : List ItemShape) (end : ℕ) → w.core ≡ world FARTHEST_END page before [] false → Like w → All IsCoreItem items
+    → Draws (finished end (full_runs w items)) (refusal_after FARTHEST_END page before 0 items) (strokes_after page before items)
+draws_from page before w items end is l all =
     let r : Result FullWorld PlotFault = full_runs w items in
     let h : EndsLike r (core.runs w.core items) = items_run w items all l in
     let same : core_part r ≡ core.runs (world FARTHEST_END page before [] false) items = h.same ∙ ap (λ (c : core.World). core.runs c items) is in
     let t : Told FARTHEST_END page before [] items (core_part r) =
     subst (λ (x : Result core.World PlotFault). Told FARTHEST_END page before [] items x) (sym same) (told FARTHEST_END page before [] items (omega arith)) in
-    (refusal_told page before items r t, strokes_told page before items r t, h.one_sheet, h.no_areas)
+    subst (λ (o : Result FullWorld PlotFault). Draws o (refusal_after FARTHEST_END page before 0 items) (strokes_after page before items)) (sym (h.closes end))
+    (refusal_told page before items r t, strokes_told page before items r t, h.one_sheet, h.no_areas, h.no_images)
 
-pub draws_as_in_core : (page : Page) (items : List ItemShape) → All IsCoreItem items
-    → Draws (full_runs (full_at_start page) items) (far_refusal page items) (strokes page items)
-draws_as_in_core page items all = draws_from page [] (full_at_start page) items refl (like_at_start ByPlot empty page refl) all
+pub draws_as_in_core : (page : Page) (items : List ItemShape) (end : ℕ) → All IsCoreItem items
+    → Draws (finished end (full_runs (full_at_start page) items)) (far_refusal page items) (strokes page items)
+draws_as_in_core page items end all = draws_from page [] (full_at_start page) items end refl (like_at_start ByPlot empty page refl) all
 
-pub draws_as_in_core_with : (encoding : Encoding) (carousel : Carousel) (page : Page) (items : List ItemShape)
+pub draws_as_in_core_with : (encoding : Encoding) (carousel : Carousel) (page : Page) (items : List ItemShape) (end : ℕ)
     → IsTrue (reads_ascii encoding usual_characters.sets) → All IsCoreItem items
-    → Draws (full_runs (full_at_start_with encoding carousel page) items) (far_refusal_with carousel page items) (strokes_with carousel page items)
-draws_as_in_core_with encoding carousel page items plain all =
-    draws_from page (Load carousel ∷ []) (full_at_start_with encoding carousel page) items refl (like_at_start encoding carousel page plain) all
+    → Draws (finished end (full_runs (full_at_start_with encoding carousel page) items)) (far_refusal_with carousel page items) (strokes_with carousel page items)
+draws_as_in_core_with encoding carousel page items end plain all =
+    draws_from page (Load carousel ∷ []) (full_at_start_with encoding carousel page) items end refl (like_at_start encoding carousel page plain) all

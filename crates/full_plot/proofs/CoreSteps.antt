@@ -36,7 +36,7 @@ use Rattle.full_plot.specs.Lines.{line_step, places_of}
 use Rattle.full_plot.specs.Machine.{core_step, marked, marked_in, full_moved, run, touched, touched_in}
 use Rattle.full_plot.specs.Polygons.{lined_by, lined_step, only_figure, with_buffer}
 use Rattle.full_plot.specs.Texts.{are_bold, at_margin, if_short, label_by, labelled, marked_by, signs_of, style_of, then_shifted, turn_by, with_margin, written}
-use Rattle.full_plot.specs.Worlds.{FullWorld, Writing, full_followed, with_core}
+use Rattle.full_plot.specs.Worlds.{FullWorld, Writing, full_followed, with_core, no_graphics}
 use Rattle.full_plot.proofs.CoreLabels.{label_as_in_core, style_is, turn_in}
 use Rattle.full_plot.proofs.LinesAlong.{IsLine, solid_line}
 use Rattle.full_plot.proofs.Solid.{shape_solid}
@@ -70,6 +70,7 @@ pub record IsLikeCore (d : Labelling) (w : FullWorld) : Type 0 where
   pub no_extra : w.extra ≡ 0
   pub no_ends : w.ends ≡ []
   pub no_areas : w.areas ≡ []
+  pub no_escapes : w.graphics ≡ no_graphics
   pub few : length w.core.kept ≤ 4194304
   pub few_places : w.buffer.places ≤ 4194304
 
@@ -202,6 +203,7 @@ like_next d w v h n = record {
   no_extra = n.extra_is ∙ h.no_extra;
   no_ends = n.ends_are ∙ h.no_ends;
   no_areas = n.areas_are ∙ h.no_areas;
+  no_escapes = n.graphics_are ∙ h.no_escapes;
   few = n.few.1 h.few;
   few_places = n.few_places (outside w h.first) h.few_places;
 }

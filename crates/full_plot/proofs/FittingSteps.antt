@@ -1,5 +1,5 @@
 -- PM 0 is carried out in polygon mode, and fills only out of it.
-use Rattle.std.proofs.Common.{◌≡◌, ◌∙◌, sym, refl, ℤ, Bool, true, false, true≢false, List, [], ◌∷◌, ◌++◌, map, Option, Some, None, if◌then◌else◌}
+use Rattle.std.proofs.Common.{◌≡◌, ◌∙◌, sym, refl, ℤ, Bool, true, false, true≢false, List, [], ◌∷◌, ◌++◌, map, Option, Some, None}
 use Rattle.std.specs.Prelude.{not}
 use Rattle.std.proofs.lemmas.Bool.{and_from}
 use Rattle.std.proofs.lemmas.List.Folds.{list_all-append}
@@ -24,8 +24,7 @@ use Rattle.full_settings.specs.WidthParameters.{percent_width}
 use Rattle.full_notes.specs.Contexts.{Context, read_in, request_in}
 use Rattle.full_notes.specs.Notes.{after_body, request_after}
 use Rattle.full_plot.specs.Items.{as_core, character_steps, full_steps, letters_steps, more_steps, params_steps, request_steps, size_by, width_steps, widths_steps}
-use Rattle.full_plot.specs.Machine.{FullStep, Curve, Letter, Rewiden, EndSheet, UserEnd, UserMoveBy}
-use Rattle.full_notes.specs.Escapes.{escape_asks}
+use Rattle.full_plot.specs.Machine.{FullStep, Curve, Letter, Rewiden, UserEnd, UserMoveBy}
 use Rattle.full_plot.proofs.Changes.{either, fits}
 use Rattle.full_plot.proofs.FullChanges.{are_fit, are_silent}
 use Rattle.full_plot.proofs.Traced.{read_silent}
@@ -91,11 +90,6 @@ request_fit c (request.Polygon Close) ns h = refl
 request_fit c (request.Polygon End) ns h = refl
 request_fit c r ns h = refl
 
--- the end of a sheet
-ends_fit : (ends in_polygon : Bool) → are_fit in_polygon (if ends then EndSheet ∷ [] else []) ≡ true
-ends_fit true in_polygon = refl
-ends_fit false in_polygon = refl
-
 body_fit : (c : Context) (b : BodyShape) → (c.in_polygon ≡ true → are_silent (after_body c b).in_polygon (full_steps c b) ≡ true)
     → are_fit (after_body c b).in_polygon (full_steps c b) ≡ true
 body_fit c (Params i ns) h = params_fit (after_body c (Params i ns)).in_polygon c i ns
@@ -104,7 +98,7 @@ body_fit c (DamagedMoves moves ns) h = core_fit c.in_polygon (move_steps moves n
 body_fit c (DamagedCurves relative ns) h = curves_fit c.in_polygon relative (curve_points ns)
 body_fit c (Kept bytes) h = refl
 body_fit c (Symbol byte) h = refl
-body_fit c (shape.Escape taken) h = ends_fit (escape_asks taken).ends_sheet c.in_polygon
+body_fit c (shape.Escape taken) h = refl
 body_fit c shape.FormFeed h = refl
 body_fit c b h = core_fit c.in_polygon (body_steps b)
 

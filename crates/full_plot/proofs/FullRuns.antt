@@ -16,8 +16,9 @@ use Rattle.full_notes.specs.Notes.{request_after}
 use Rattle.full_plot.specs.Items.{as_core, more_steps, params_steps, request_steps}
 use Rattle.full_plot.specs.ContextsAfter.{after_request}
 use Rattle.full_notes.proofs.Noted.{is_own}
+use Rattle.full_plot.specs.Sheets.{last_end}
 use Rattle.full_plot.specs.Worlds.{FullWorld, full_followed}
-use Rattle.full_plot.specs.Machine.{last_end, FullStep, Core, full_step, run, core_step, Runs}
+use Rattle.full_plot.specs.Machine.{FullStep, Core, full_step, run, core_step, Runs}
 
 full_followed-followed : (o : Option FullWorld) (f g : FullWorld → Option FullWorld) → full_followed (full_followed o f) g ≡ full_followed o (λ (v : FullWorld). full_followed (f v) g)
 full_followed-followed None f g = refl

@@ -1,20 +1,14 @@
--- The sheets of a plot, joined in order, make the whole of its strokes.
-use Rattle.std.proofs.Common.{◌≡◌, ◌∙◌, ◌≤◌, ◌<◌, ◌+◌, ◌-◌, ℕ, zero, suc, inl, inr, refl, arith, sym, ap, ap₂, false, List, [], ◌∷◌, ◌++◌, length, take, drop, get_or, nat_eq, nat_lt, flat_map, append-nil, add-one}
+-- What the sheets of a plot have of a list, joined in order, is all of it.
+use Rattle.std.proofs.Common.{◌≡◌, ◌∙◌, ◌≤◌, ◌<◌, ◌+◌, ◌-◌, ℕ, zero, suc, refl, arith, sym, ap, ap₂, Bool, true, false, List, [], ◌∷◌, ◌++◌, length, take, drop, get_or, nat_eq, nat_lt, flat_map, append-nil, add-one}
 use Rattle.std.specs.List.{range_with_len}
-use Rattle.std.proofs.lemmas.Bool.{cases_Bool}
+use Rattle.std.proofs.lemmas.Bool.{or_parts}
 use Rattle.std.proofs.lemmas.Bool.Decides.{nat_tests}
 use Rattle.std.proofs.lemmas.List.{drop_all, get_or_past, length-take, length_push, map-id, take-append-drop, take-take, take_all}
 use Rattle.std.proofs.lemmas.List.Concat.{flat_map-append}
 use Rattle.std.proofs.lemmas.List.FromFn.{map-range_with_len_more}
-use Rattle.plot_page.specs.Segments.{Segment}
-use Rattle.full_plot.specs.Drawings.{sheet_count, sheet_strokes}
+use Rattle.full_plot.specs.Drawings.{Ascend, of_sheet, sheet_count}
 use Rattle.full_plot.specs.Laws.{AreSheets}
-use Rattle.full_plot.specs.Machine.{ends_with, last_end}
-
--- the ends of sheets ascend from where the first sheet begins, up to so many strokes
-abbrev pub Ascend : ℕ → List ℕ → ℕ → Type 0
-Ascend start [] count = start ≤ count
-Ascend start (end ∷ ends) count = (start ≤ end) × Ascend end ends count
+use Rattle.full_plot.specs.Sheets.{ends_with, has_more, last_end}
 
 -- after more strokes
 pub ascend_on : (start : ℕ) (ends : List ℕ) (m n : ℕ) → m ≤ n → Ascend start ends m → Ascend start ends n
@@ -26,11 +20,9 @@ ascend_ended : (start : ℕ) (ends : List ℕ) (count : ℕ) → Ascend start en
 ascend_ended start [] count h = (h, omega arith)
 ascend_ended start (end ∷ ends) count h = (h.0, ascend_ended end ends count h.1)
 
-pub ascend_with : (ends : List ℕ) (count : ℕ) → Ascend 0 ends count → Ascend 0 (ends_with ends count) count
-ascend_with ends count h = elim (cases_Bool (nat_lt (last_end ends) count)) [
-  | inl t ↦ rw t (ascend_ended 0 ends count h)
-  | inr t ↦ rw t h
-]
+pub ascend_with : (more : Bool) (ends : List ℕ) (count : ℕ) → Ascend 0 ends count → Ascend 0 (ends_with more ends count) count
+ascend_with true ends count h = ascend_ended 0 ends count h
+ascend_with false ends count h = h
 
 -- a sheet begins before it ends
 begins : (before start : ℕ) (ends : List ℕ) (count : ℕ) → Ascend start ends count
@@ -52,15 +44,23 @@ last_from_start : (ends : List ℕ) → last_end (0 ∷ ends) ≡ last_end ends
 last_from_start [] = refl
 last_from_start (end ∷ ends) = refl
 
-ended : (k : ℕ) (ends : List ℕ) (count : ℕ) → sheet_count ends count ≤ k → count ≤ get_or (0 ∷ ends) k count
-ended k ends count l = elim (cases_Bool (nat_lt (last_end ends) count)) [
-  | inl t ↦ (let more : length (ends ++ count ∷ []) ≤ k = rw t at l in
-      let long : length (0 ∷ ends) ≤ k = omega (arith, more, length_push ends count) in
-      let e : get_or (0 ∷ ends) k count ≡ count = get_or_past (0 ∷ ends) k count long in
-      omega (arith, e))
-  | inr t ↦ (let few : count ≤ last_end ends = grind (arith, nat_tests) in
-      past k 0 ends count (rw (last_from_start ends) few) (rw t at l))
-]
+-- after so many sheets: as many as ended, and one more if something was drawn after them
+ended_by : (more : Bool) (k : ℕ) (ends : List ℕ) (count other : ℕ) → (more ≡ false → count ≤ last_end ends) → length (ends_with more ends other) ≤ k
+    → count ≤ get_or (0 ∷ ends) k count
+ended_by true k ends count other few l =
+    let long : length (0 ∷ ends) ≤ k = omega (arith, l, length_push ends other) in
+    let e : get_or (0 ∷ ends) k count ≡ count = get_or_past (0 ∷ ends) k count long in
+    omega (arith, e)
+ended_by false k ends count other few l = past k 0 ends count (rw (last_from_start ends) (few refl)) l
+
+-- nothing is left of strokes and of images if nothing was drawn
+none_left : (ends : List ℕ) (count : ℕ) (other_ends : List ℕ) (others : ℕ) → has_more ends count other_ends others ≡ false
+    → (count ≤ last_end ends) × (others ≤ last_end other_ends)
+none_left ends count other_ends others e =
+    let both = or_parts (nat_lt (last_end ends) count) (nat_lt (last_end other_ends) others) e in
+    let first : nat_lt (last_end ends) count ≡ false = both.0 in
+    let second : nat_lt (last_end other_ends) others ≡ false = both.1 in
+    (grind (arith, nat_tests), grind (arith, nat_tests))
 
 -- the numbers from a on, and one more
 range_more : (a n : ℕ) → range_with_len a (suc n) ≡ range_with_len a n ++ (a + n) ∷ []
@@ -68,46 +68,66 @@ range_more a n =
     ap (range_with_len a) (sym (add-one n)) ∙ sym (map-id (range_with_len a (n + 1))) ∙ map-range_with_len_more (λ (x : ℕ). x) a n (a + n) refl
     ∙ ap (λ (ns : List ℕ). ns ++ (a + n) ∷ []) (map-id (range_with_len a n))
 
--- a part and the rest
-parts_join : (a b : ℕ) (strokes : List Segment) → a ≤ b → take a strokes ++ drop a (take b strokes) ≡ take b strokes
-parts_join a b strokes l =
-    ap (λ (first : List Segment). first ++ drop a (take b strokes)) (sym (take-take a b strokes l)) ∙ take-append-drop a (take b strokes)
+module _ {A : Type 0} where
+  -- a part and the rest
+  parts_join : (a b : ℕ) (list : List A) → a ≤ b → take a list ++ drop a (take b list) ≡ take b list
+  parts_join a b list l =
+      ap (λ (first : List A). first ++ drop a (take b list)) (sym (take-take a b list l)) ∙ take-append-drop a (take b list)
 
--- the strokes of the sheet with so many before it
-this_sheet : (before sheet : ℕ) (strokes : List Segment) (ends : List ℕ) → sheet ≡ 1 + before
-    → sheet_strokes strokes ends sheet
-    ≡ drop (get_or (0 ∷ ends) before (length strokes)) (take (get_or ends before (length strokes)) strokes)
-this_sheet before sheet strokes ends e =
-    let is_one : nat_eq sheet 0 ≡ false = grind (arith, nat_tests) in
-    let place : sheet - 1 ≡ before = omega (arith, e) in
-    rw (is_one, place) refl
+  -- what the sheet with so many before it has
+  this_sheet : (before sheet : ℕ) (list : List A) (ends : List ℕ) → sheet ≡ 1 + before
+      → of_sheet list ends sheet ≡ drop (get_or (0 ∷ ends) before (length list)) (take (get_or ends before (length list)) list)
+  this_sheet before sheet list ends e =
+      let is_one : nat_eq sheet 0 ≡ false = grind (arith, nat_tests) in
+      let place : sheet - 1 ≡ before = omega (arith, e) in
+      rw (is_one, place) refl
 
--- so many sheets
-first_join : (k : ℕ) (strokes : List Segment) (ends : List ℕ) → Ascend 0 ends (length strokes)
-    → flat_map (sheet_strokes strokes ends) (range_with_len 1 k) ≡ take (get_or (0 ∷ ends) k (length strokes)) strokes
-first_join zero strokes ends h = refl
-first_join (suc k) strokes ends h =
-    let sheet : ℕ → List Segment = sheet_strokes strokes ends in
-    let count : ℕ = length strokes in
-    ap (flat_map sheet) (range_more 1 k) ∙ flat_map-append sheet (range_with_len 1 k) ((1 + k) ∷ [])
-    ∙ ap₂ (λ (first next : List Segment). first ++ next) (first_join k strokes ends h)
-    (append-nil (sheet (1 + k)) ∙ this_sheet k (1 + k) strokes ends refl)
-    ∙ parts_join (get_or (0 ∷ ends) k count) (get_or ends k count) strokes (begins k 0 ends count h)
+  -- so many sheets
+  first_join : (k : ℕ) (list : List A) (ends : List ℕ) → Ascend 0 ends (length list)
+      → flat_map (of_sheet list ends) (range_with_len 1 k) ≡ take (get_or (0 ∷ ends) k (length list)) list
+  first_join zero list ends h = refl
+  first_join (suc k) list ends h =
+      let sheet : ℕ → List A = of_sheet list ends in
+      let count : ℕ = length list in
+      ap (flat_map sheet) (range_more 1 k) ∙ flat_map-append sheet (range_with_len 1 k) ((1 + k) ∷ [])
+      ∙ ap₂ (λ (first next : List A). first ++ next) (first_join k list ends h)
+      (append-nil (sheet (1 + k)) ∙ this_sheet k (1 + k) list ends refl)
+      ∙ parts_join (get_or (0 ∷ ends) k count) (get_or ends k count) list (begins k 0 ends count h)
 
-no_later : (sheet : ℕ) (strokes : List Segment) (ends : List ℕ) → sheet_count ends (length strokes) < sheet
-    → sheet_strokes strokes ends sheet ≡ []
-no_later sheet strokes ends l =
-    let count : ℕ = length strokes in
-    let before : ℕ = sheet - 1 in
-    let sheets : List Segment = take (get_or ends before count) strokes in
-    let far : count ≤ get_or (0 ∷ ends) before count = ended before ends count (omega (arith, l)) in
-    this_sheet before sheet strokes ends (omega (arith, l))
-    ∙ drop_all (get_or (0 ∷ ends) before count) sheets (omega (arith, far, length-take (get_or ends before count) strokes))
+  no_later : (sheet : ℕ) (list : List A) (ends : List ℕ) → 0 < sheet → length list ≤ get_or (0 ∷ ends) (sheet - 1) (length list)
+      → of_sheet list ends sheet ≡ []
+  no_later sheet list ends l far =
+      let count : ℕ = length list in
+      let before : ℕ = sheet - 1 in
+      let sheets : List A = take (get_or ends before count) list in
+      this_sheet before sheet list ends (omega (arith, l))
+      ∙ drop_all (get_or (0 ∷ ends) before count) sheets (omega (arith, far, length-take (get_or ends before count) list))
 
-pub are_sheets : (strokes : List Segment) (ends : List ℕ) → Ascend 0 ends (length strokes) → AreSheets strokes ends
-are_sheets strokes ends h =
-    let n : ℕ = sheet_count ends (length strokes) in
-    record {
-      joined = first_join n strokes ends h ∙ take_all _ strokes (ended n ends (length strokes) (omega arith));
-      later = λ (sheet : ℕ). no_later sheet strokes ends;
-    }
+  -- if nothing is left after so many sheets
+  are_sheets_by : (list : List A) (ends : List ℕ) (sheets : ℕ) → Ascend 0 ends (length list)
+      → ((k : ℕ) → sheets ≤ k → length list ≤ get_or (0 ∷ ends) k (length list)) → AreSheets list ends sheets
+  are_sheets_by list ends sheets h end = record {
+    joined = first_join sheets list ends h ∙ take_all _ list (end sheets (omega arith));
+    later = λ (sheet : ℕ) (l : sheets < sheet). no_later sheet list ends (omega (arith, l)) (end (sheet - 1) (omega (arith, l)));
+  }
+
+-- the strokes of the sheets of a plot, and its images
+pub strokes_are_sheets : {A : Type 0} (strokes : List A) (ends image_ends : List ℕ) (images : ℕ) → Ascend 0 ends (length strokes)
+    → AreSheets strokes ends (sheet_count ends (length strokes) image_ends images)
+strokes_are_sheets strokes ends image_ends images h =
+    are_sheets_by strokes ends (sheet_count ends (length strokes) image_ends images) h (λ k l.
+    ended_by (has_more ends (length strokes) image_ends images) k ends (length strokes) (length strokes)
+    (λ e. (none_left ends (length strokes) image_ends images e).0) l)
+
+pub images_are_sheets : {A : Type 0} (images : List A) (ends image_ends : List ℕ) (strokes : ℕ) → Ascend 0 image_ends (length images)
+    → length image_ends ≡ length ends → AreSheets images image_ends (sheet_count ends strokes image_ends (length images))
+images_are_sheets images ends image_ends strokes h same =
+    are_sheets_by images image_ends (sheet_count ends strokes image_ends (length images)) h (λ k l.
+    ended_by (has_more ends strokes image_ends (length images)) k image_ends (length images) strokes
+    (λ e. (none_left ends strokes image_ends (length images) e).1)
+    (same_length (has_more ends strokes image_ends (length images)) ends image_ends strokes k same l))
+  where
+    same_length : (more : Bool) (ends others : List ℕ) (count k : ℕ) → length others ≡ length ends → length (ends_with more ends count) ≤ k
+        → length (ends_with more others count) ≤ k
+    same_length true ends others count k e l = omega (arith, e, l, length_push ends count, length_push others count)
+    same_length false ends others count k e l = omega (arith, e, l)

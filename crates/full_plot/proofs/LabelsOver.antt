@@ -16,7 +16,7 @@ judged : (b : Bool) (e : PlotFault) (u v : FullWorld) → (if b then Err e else 
 judged true e u v h = absurd (cc h)
 judged false e u v h = cc h
 
-past : (o : Option FullWorld) (i : ItemShape) (v : FullWorld) → full_ended o i.at (λ (u : FullWorld). Ok u) ≡ Ok v → o ≡ Some v
+pub past : (o : Option FullWorld) (i : ItemShape) (v : FullWorld) → full_ended o i.at (λ (u : FullWorld). Ok u) ≡ Ok v → o ≡ Some v
 past None i v h = absurd (cc h)
 past (Some u) i v h = ap (λ (t : FullWorld). Some t) (judged (is_too_much u) _ u v h)
 

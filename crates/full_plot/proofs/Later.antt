@@ -1,16 +1,22 @@
 -- What all steps leave alone: how items are read, that no more strokes are kept than a plot may have, that the sheets that
 -- have ended and the areas are parts of them, in order, that the edges of an area are alike, and that no area goes on where one
 -- did not.
-use Rattle.std.proofs.Common.{◌≡◌, ◌∙◌, ◌≤◌, ℕ, refl, subst, arith, Bool, true, false, List, [], ◌∷◌, length, map, Result, Ok, Err, Option, Some, None}
+use Rattle.std.proofs.Common.{◌≡◌, ◌∙◌, ◌≤◌, ℕ, refl, ap, subst, arith, Bool, true, false, List, [], ◌∷◌, ◌++◌, append-nil, append_assoc, length, length-append, map, Result, Ok, Err, Option, Some, None}
 use Rattle.std.specs.Prelude.{if◌then◌else◌, ⊤}
 use Rattle.std.specs.List.{All}
+use Rattle.std.proofs.lemmas.List.{length_push}
 use Rattle.std.proofs.lemmas.List.Elements.{All-nil}
 use Rattle.areas.specs.Shapes.{AreApart, NoneGoesOn, edges_of}
 use Rattle.areas.specs.declared.area.Area.{Area}
 use Rattle.carousel.specs.declared.carousel.Carousel.{Carousel}
 use Rattle.character_sets.specs.declared.encoding.Encoding.{Encoding}
 use Rattle.line_types.specs.declared.run.Run.{Run}
+use Rattle.page_images.specs.PageImages.{ImageShape, page_image}
 use Rattle.plot_page.specs.Segments.{Segment}
+use Rattle.raster_graphics.specs.declared.fault.Fault.{Fault}
+use Rattle.raster_graphics.specs.declared.image.Image.{Image}
+use Rattle.raster_graphics.specs.declared.machine.Machine.{Machine}
+use Rattle.raster_graphics.specs.Machines.{closed}
 use Rattle.polygons.specs.declared.lines.Rule.{Rule}
 use Rattle.polygons.specs.declared.span.Span.{Span}
 use Rattle.plot_page.specs.declared.page.Page.{Page}
@@ -22,32 +28,40 @@ use Rattle.hpgl_plot.specs.declared.state.State.{State}
 use Rattle.hpgl_plot.specs.Machine as core
 use Rattle.full_notes.specs.Contexts.{Context, read_in}
 use Rattle.full_notes.specs.Notes.{context_after}
-use Rattle.full_plot.specs.Drawings.{AreAlike, full_at_start_with, full_ended, is_too_much, full_runs, outcome_with, strokes_in, ends_in, CarriesOut}
+use Rattle.full_plot.specs.Drawings.{AreAlike, Ascend, befores, finished, full_at_start_with, full_ended, image_closed, is_too_much, full_runs, outcome_with, CarriesOut}
 use Rattle.full_plot.specs.Fills.{edge_span, edges_inked, solid_filled}
 use Rattle.full_plot.specs.Items.{full_steps, taken}
-use Rattle.full_plot.specs.Machine.{ends_with}
-use Rattle.full_plot.specs.Laws.{AreSheets, SheetsJoin}
-use Rattle.full_plot.specs.Worlds.{FullWorld}
+use Rattle.full_plot.specs.Commands.{gathered, with_machine}
+use Rattle.full_plot.specs.Sheets.{ends_with, is_begun, sheet_ended}
+use Rattle.full_plot.specs.Laws.{SheetsJoin, SheetsJoinIn}
+use Rattle.full_plot.specs.Worlds.{FullWorld, Graphics}
 use Rattle.full_plot.proofs.AlikeEdges.{alike_added, spans_inked, thin_look}
 use Rattle.full_plot.proofs.AreasHave.{GoesOn, Have, all_have, have_on, on_kept, on_none, on_then}
 use Rattle.full_plot.proofs.AreasInOrder.{AreUpTo, are_apart, are_within, up_to_added, up_to_more}
-use Rattle.full_plot.proofs.BesideAreas.{NoneAtEnds, none_at_ends_with_later, none_at_next_end, none_with_later}
+use Rattle.full_plot.proofs.BesideAreas.{NoneAtEnds, none_at_ends_with_later, none_at_next, none_at_next_end, none_with_later}
 use Rattle.full_plot.proofs.Changes.{In}
 use Rattle.full_plot.proofs.FittingSteps.{all_fit}
 use Rattle.full_plot.proofs.FullChanges.{Changes, run_holds}
-use Rattle.full_plot.proofs.JoinedSheets.{Ascend, are_sheets, ascend_on, ascend_with}
+use Rattle.full_plot.proofs.JoinedSheets.{ascend_on, ascend_with, images_are_sheets, strokes_are_sheets}
 use Rattle.full_plot.proofs.Nexts.{Grows, few_kept}
-use Rattle.full_plot.proofs.RoundEdges.{no_area, no_end}
+use Rattle.full_plot.proofs.RoundEdges.{no_area, no_end, no_image}
+
+-- images are in order among so many strokes, no area goes on at one of them, and sheets that end after so many ends end among them
+pub record AreImagesInOrder (areas : List Area) (count sheets : ℕ) (g : Graphics) : Type 0 where
+  pub ascend : Ascend 0 (befores g.images) count
+  pub beside : NoneAtEnds (befores g.images) areas
+  pub ends : Ascend 0 g.ends (length g.images)
+  pub sheets_are : length g.ends ≡ sheets
 
 -- these strokes are no more than a plot may have, the ends of sheets ascend up to them, as areas do, the edges of an area are
--- alike, and no area goes on where a sheet ends
-abbrev InOrder : List ℕ → List Area → List Segment → Type 0
-InOrder ends areas kept =
+-- alike, no area goes on where a sheet ends, and images are in order
+abbrev InOrder : List ℕ → List Area → List Segment → Graphics → Type 0
+InOrder ends areas kept g =
     (length kept ≤ 4194304) × Ascend 0 ends (length kept) × AreUpTo 0 areas (length kept) × Have AreAlike kept areas
-    × NoneAtEnds ends areas
+    × NoneAtEnds ends areas × AreImagesInOrder areas (length kept) (length ends) g
 
 abbrev pub IsInOrder : FullWorld → Type 0
-IsInOrder w = InOrder w.ends w.areas w.core.kept
+IsInOrder w = InOrder w.ends w.areas w.core.kept w.graphics
 
 -- a later world
 pub record IsLater (w v : FullWorld) : Type 0 where
@@ -72,31 +86,114 @@ later_drawn w s ss r =
     let on : GoesOn w.core.kept (core.kept_with w.core.kept w.core.full ss) = on_kept w.core.kept w.core.full ss in
     record {
       context_is = refl;
-      in_order = λ h. (g.1 h.0, ascend_on 0 w.ends _ _ g.0 h.1, up_to_more 0 w.areas _ _ g.0 h.2, have_on AreAlike _ _ w.areas on h.3, h.4);
+      in_order = λ h. (
+        g.1 h.0,
+        ascend_on 0 w.ends _ _ g.0 h.1,
+        up_to_more 0 w.areas _ _ g.0 h.2,
+        have_on AreAlike _ _ w.areas on h.3,
+        h.4,
+        record {
+          ascend = ascend_on 0 (befores w.graphics.images) _ _ g.0 h.5.ascend;
+          beside = h.5.beside;
+          ends = h.5.ends;
+          sheets_are = h.5.sheets_are;
+        },
+      );
       grows = g.0;
       goes_on = on;
       none_goes_on = λ n before none. none;
     }
 
-later_aside : (w v : FullWorld) → v.context ≡ w.context → v.core.kept ≡ w.core.kept → v.ends ≡ w.ends → v.areas ≡ w.areas → IsLater w v
-later_aside w v c k e a = record {
+later_aside : (w v : FullWorld) → v.context ≡ w.context → v.core.kept ≡ w.core.kept → v.ends ≡ w.ends → v.areas ≡ w.areas
+    → v.graphics ≡ w.graphics → IsLater w v
+later_aside w v c k e a i = record {
   context_is = c;
-  in_order = λ h. rw (k, e, a) h;
+  in_order = λ h. rw (k, e, a, i) h;
   grows = rw k (omega arith);
   goes_on = rw k (on_none w.core.kept);
   none_goes_on = λ n before none. rw a none;
 }
 
-later_ended : (w : FullWorld) → IsLater w (record w { ends = ends_with w.ends (length w.core.kept) })
+-- a sheet ends in both lists or in neither
+same_ends : (more : Bool) (ends image_ends : List ℕ) (count images : ℕ) → length image_ends ≡ length ends
+    → length (ends_with more image_ends images) ≡ length (ends_with more ends count)
+same_ends true ends image_ends count images e = omega (arith, e, length_push ends count, length_push image_ends images)
+same_ends false ends image_ends count images e = e
+
+later_ended : (w : FullWorld) → IsLater w (sheet_ended w)
 later_ended w =
     let count : ℕ = length w.core.kept in
+    let more : Bool = is_begun w in
     record {
       context_is = refl;
-      in_order = λ h. (h.0, ascend_with w.ends count h.1, h.2, h.3, none_at_next_end w.ends w.areas count h.2 h.4);
+      in_order = λ h. (
+        h.0,
+        ascend_with more w.ends count h.1,
+        h.2,
+        h.3,
+        none_at_next_end more w.ends w.areas count h.2 h.4,
+        record {
+          ascend = h.5.ascend;
+          beside = h.5.beside;
+          ends = ascend_with more w.graphics.ends (length w.graphics.images) h.5.ends;
+          sheets_are = same_ends more w.ends w.graphics.ends count (length w.graphics.images) h.5.sheets_are;
+        },
+      );
       grows = omega arith;
       goes_on = on_none w.core.kept;
       none_goes_on = λ n before none. none;
     }
+
+-- where only what escapes make is another
+later_graphics : (w : FullWorld) (g : Graphics)
+    → (AreUpTo 0 w.areas (length w.core.kept) → AreImagesInOrder w.areas (length w.core.kept) (length w.ends) w.graphics
+    → AreImagesInOrder w.areas (length w.core.kept) (length w.ends) g)
+    → IsLater w (record w { graphics = g })
+later_graphics w g k = record {
+  context_is = refl;
+  in_order = λ h. (h.0, h.1, h.2, h.3, h.4, k h.2 h.5);
+  grows = omega arith;
+  goes_on = on_none w.core.kept;
+  none_goes_on = λ n before none. none;
+}
+
+later_machine : (w : FullWorld) (m : Machine) → IsLater w (with_machine w m)
+later_machine w m = later_graphics w _ (λ up h. record { ascend = h.ascend; beside = h.beside; ends = h.ends; sheets_are = h.sheets_are })
+
+-- with images that are drawn after all strokes
+ascend_more : (start : ℕ) (befores : List ℕ) (count : ℕ) (images : List Image) (page : Page) → Ascend start befores count
+    → Ascend start (befores ++ map (λ (i : Image). (page_image page i count).before) images) count
+ascend_more start [] count [] page h = h
+ascend_more start [] count (i ∷ is) page h = (h, ascend_more count [] count is page (omega arith))
+ascend_more start (b ∷ bs) count is page h = (h.0, ascend_more b bs count is page h.1)
+
+none_at_more : (befores : List ℕ) (areas : List Area) (count : ℕ) (images : List Image) (page : Page) → AreUpTo 0 areas count
+    → NoneAtEnds befores areas → NoneAtEnds (befores ++ map (λ (i : Image). (page_image page i count).before) images) areas
+none_at_more befores areas count [] page up h = rw append-nil h
+none_at_more befores areas count (i ∷ is) page up h =
+    rw (← append_assoc befores (count ∷ []) (map (λ (j : Image). (page_image page j count).before) is))
+    (none_at_more (befores ++ count ∷ []) areas count is page up (none_at_next befores areas count up h))
+
+gathered_befores : (images : List ImageShape) (page : Page) (count : ℕ) (more : List Image)
+    → befores (images ++ map (λ (i : Image). page_image page i count) more)
+    ≡ befores images ++ map (λ (i : Image). (page_image page i count).before) more
+gathered_befores [] page count [] = refl
+gathered_befores [] page count (i ∷ is) = ap (λ (bs : List ℕ). count ∷ bs) (gathered_befores [] page count is)
+gathered_befores (j ∷ js) page count more = ap (λ (bs : List ℕ). j.before ∷ bs) (gathered_befores js page count more)
+
+later_gathered : (w : FullWorld) → IsLater w (gathered w)
+later_gathered w =
+    let count : ℕ = length w.core.kept in
+    let done : List Image = w.graphics.machine.images in
+    let images : List ImageShape = w.graphics.images in
+    let page : Page = w.core.page in
+    let more : List ImageShape = map (λ (i : Image). page_image page i count) done in
+    later_graphics w _ (λ up h. record {
+      ascend = rw (gathered_befores images page count done) (ascend_more 0 (befores images) count done page h.ascend);
+      beside = rw (gathered_befores images page count done) (none_at_more (befores images) w.areas count done page up h.beside);
+      ends = ascend_on 0 w.graphics.ends (length images) (length (images ++ more)) (omega (arith, length-append images more)) h.ends;
+      sheets_are = h.sheets_are;
+    })
 
 later_area : (w : FullWorld) (rule : Rule) → IsLater w (edges_inked w) → IsLater w (solid_filled rule w)
 later_area w rule h =
@@ -104,6 +201,7 @@ later_area w rule h =
     let spans : List Span = map edge_span w.buffer.edges in
     let a : v.areas ≡ w.areas = no_area spans w in
     let e : v.ends ≡ w.ends = no_end spans w in
+    let i : v.graphics ≡ w.graphics = no_image spans w in
     record {
       context_is = h.context_is;
       in_order = λ order.
@@ -114,6 +212,13 @@ later_area w rule h =
             up_to_added 0 v.areas (length w.core.kept) (length v.core.kept) rule h.grows (rw a order.2),
             alike_added w.core.kept v.core.kept v.areas rule (thin_look w.core.state) refl (spans_inked spans w) alike,
             none_at_ends_with_later v.ends v.areas (length w.core.kept) (length v.core.kept) rule (rw e order.1) after.4,
+            record {
+              ascend = after.5.ascend;
+              beside = none_at_ends_with_later (befores v.graphics.images) v.areas (length w.core.kept) (length v.core.kept) rule
+                  (rw i order.5.ascend) after.5.beside;
+              ends = after.5.ends;
+              sheets_are = after.5.sheets_are;
+            },
           );
       grows = h.grows;
       goes_on = h.goes_on;
@@ -125,8 +230,10 @@ later_changes = record {
   joined = later_then;
   context_is = λ w v h. h.context_is;
   drawn = λ w s ss r m. later_drawn w s ss r;
-  aside = λ w v c k e a full b. later_aside w v c k e a;
+  aside = λ w v c k e a i full b. later_aside w v c k e a i;
   ended = later_ended;
+  machine = later_machine;
+  gathers = later_gathered;
   area = λ w rule off h. later_area w rule h;
 }
 
@@ -180,7 +287,14 @@ order_by_items (i ∷ more) w h =
     order_ended w i.body (taken w i.body) i.at more (after_item w i.body) h (λ (v : FullWorld) (k : IsInOrder v). order_by_items more v k)
 
 pub at_start_in_order : (encoding : Encoding) (carousel : Carousel) (page : Page) → IsInOrder (full_at_start_with encoding carousel page)
-at_start_in_order encoding carousel page = (omega arith, omega arith, omega arith, tt, All-nil (λ (end : ℕ). NoneGoesOn end []))
+at_start_in_order encoding carousel page = (
+  omega arith,
+  omega arith,
+  omega arith,
+  tt,
+  All-nil (λ (end : ℕ). NoneGoesOn end []),
+  record { ascend = omega arith; beside = All-nil (λ (end : ℕ). NoneGoesOn end []); ends = omega arith; sheets_are = refl },
+)
 
 -- a plot that is accepted
 in_order_at_end : (encoding : Encoding) (carousel : Carousel) (page : Page) (items : List ItemShape) (v : FullWorld)
@@ -212,15 +326,37 @@ pub no_area_at_ends : (encoding : Encoding) (carousel : Carousel) (page : Page) 
     → full_runs (full_at_start_with encoding carousel page) items ≡ Ok v → All (λ (end : ℕ). NoneGoesOn end v.areas) v.ends
 no_area_at_ends encoding carousel page items v e = (in_order_at_end encoding carousel page items v e).4
 
+-- the images of a plot are in order, once the one that is open is closed
+order_closed : (w : FullWorld) (at : ℕ) (r : Result Machine Fault) → IsInOrder w → InOrderAfter (image_closed w at r)
+order_closed w at (Ok m) h = (later_gathered (with_machine w m)).in_order ((later_machine w m).in_order h)
+order_closed w at (Err f) h = tt
+
+pub images_in_order : (encoding : Encoding) (carousel : Carousel) (page : Page) (items : List ItemShape) (v u : FullWorld) (at : ℕ)
+    → full_runs (full_at_start_with encoding carousel page) items ≡ Ok v → finished at (Ok v) ≡ Ok u
+    → AreImagesInOrder u.areas (length u.core.kept) (length u.ends) u.graphics
+images_in_order encoding carousel page items v u at e f =
+    let end : IsInOrder u = subst InOrderAfter f (order_closed v at (closed v.graphics.machine) (in_order_at_end encoding carousel page items v e)) in end.5
+
 -- the sheets of a plot that is refused, too
-sheets_in_order : (r : Result FullWorld PlotFault) → InOrderAfter r → AreSheets (strokes_in r) (ends_in r)
-sheets_in_order (Ok w) h = are_sheets w.core.kept w.ends h.1
-sheets_in_order (Err e) h = are_sheets [] [] (omega arith)
+sheets_in_order : (r : Result FullWorld PlotFault) → InOrderAfter r → SheetsJoinIn r
+sheets_in_order (Ok w) h = record {
+  strokes = strokes_are_sheets w.core.kept w.ends w.graphics.ends (length w.graphics.images) h.1;
+  images = images_are_sheets w.graphics.images w.ends w.graphics.ends (length w.core.kept) h.5.ends h.5.sheets_are;
+}
+sheets_in_order (Err e) h = record {
+  strokes = strokes_are_sheets [] [] [] 0 (omega arith);
+  images = images_are_sheets [] [] [] 0 (omega arith) refl;
+}
+
+order_finished : (at : ℕ) (r : Result FullWorld PlotFault) → InOrderAfter r → InOrderAfter (finished at r)
+order_finished at (Ok w) h = order_closed w at (closed w.graphics.machine) h
+order_finished at (Err e) h = tt
 
 pub sheets_joined : SheetsJoin
 sheets_joined encoding carousel page plot =
+    let start : FullWorld = full_at_start_with encoding carousel page in
     sheets_in_order (outcome_with encoding carousel page plot)
-    (order_by_items (full_cut plot) (full_at_start_with encoding carousel page) (at_start_in_order encoding carousel page))
+    (order_finished (length plot) (full_runs start (full_cut plot)) (order_by_items (full_cut plot) start (at_start_in_order encoding carousel page)))
 
 -- an item that is carried out makes no stroke fewer
 pub no_fewer : (w v : FullWorld) (b : BodyShape) → taken w b ≡ Some v → length w.core.kept ≤ length v.core.kept

@@ -1,4 +1,5 @@
 pub mod PlotExamples
+mod ImageExamples
 mod UserExamples
 mod PenExamples
 mod FillExamples
@@ -40,3 +41,9 @@ mod Traced
 mod Undrawn
 pub mod UserSteps
 mod Restarts
+pub mod GatheredImages
+pub mod CarriedPlaces
+pub mod AfterRequests
+pub mod AskedCommands
+pub mod ToldEscapes
+pub mod Finished

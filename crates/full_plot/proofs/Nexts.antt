@@ -48,6 +48,7 @@ pub record IsNext (w v : FullWorld) : Type 0 where
   pub extra_is : v.extra ≡ w.extra
   pub ends_are : v.ends ≡ w.ends
   pub areas_are : v.areas ≡ w.areas
+  pub graphics_are : v.graphics ≡ w.graphics
   pub context_is : v.context ≡ w.context
   pub few : Grows (length w.core.kept) (length v.core.kept)
   pub few_places : w.context.in_polygon ≡ false → w.buffer.places ≤ 4194304 → v.buffer.places ≤ 4194304
@@ -61,6 +62,7 @@ next_of_next w v u h k = record {
   extra_is = k.extra_is ∙ h.extra_is;
   ends_are = k.ends_are ∙ h.ends_are;
   areas_are = k.areas_are ∙ h.areas_are;
+  graphics_are = k.graphics_are ∙ h.graphics_are;
   context_is = k.context_is ∙ h.context_is;
   few = grows_on (length w.core.kept) (length v.core.kept) (length u.core.kept) h.few k.few;
   few_places = λ a few. k.few_places (ap (λ (c : Context). c.in_polygon) h.context_is ∙ a) (h.few_places a few);
@@ -77,6 +79,7 @@ next_by w c r q b h k = record {
   extra_is = refl;
   ends_are = refl;
   areas_are = refl;
+  graphics_are = refl;
   context_is = refl;
   few = h;
   few_places = k;

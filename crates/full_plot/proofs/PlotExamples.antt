@@ -1,6 +1,6 @@
 -- Line types, polygons and sheets: what small plots draw in the profile full, by their text. The diagonal of P1 and P2 at (0,0) and
 -- (300,400) is 8,000 grains, and ten percent of it are 800.
-use Rattle.std.proofs.Common.{◌≡◌, lit≤, ℕ, List, [], ◌∷◌, refl, pos, length, Some, flat_map}
+use Rattle.std.proofs.Common.{◌≡◌, lit≤, ℕ, true, false, List, [], ◌∷◌, refl, pos, length, Some, flat_map}
 use Rattle.std.specs.Prelude.{codes}
 use Rattle.exact.specs.Roots.{root_by}
 use Rattle.exact.proofs.Tables.{Table, Agree}
@@ -16,7 +16,7 @@ use Rattle.full_plot.specs.Lines.{line_step}
 use Rattle.full_plot.specs.Drawings.{outcome, refusal_in, strokes_in, ends_in, sheet_count, sheet_strokes}
 use Rattle.full_plot.specs.Polygons.{trace_step}
 use Rattle.std.specs.List.{range_with_len}
-use Rattle.full_plot.specs.Machine.{ends_with}
+use Rattle.full_plot.specs.Sheets.{ends_with, has_more}
 
 abbrev pub page : Page
 page = record { width = 1000; height = 1000; left = 0; below = 0; width_in = (lit≤ tt, lit≤ tt); height_in = (lit≤ tt, lit≤ tt); left_in = lit≤ tt; below_in = lit≤ tt }
@@ -81,7 +81,7 @@ sheets_end : ends_in (outcome page sheets) ≡ 1 ∷ 2 ∷ []
 unfolding place_along back_along all_pens default_colours empty line_step core.step
 sheets_end = refl
 
-two_sheets : sheet_count (ends_in (outcome page sheets)) (length (strokes sheets)) ≡ 2
+two_sheets : sheet_count (ends_in (outcome page sheets)) (length (strokes sheets)) [] 0 ≡ 2
 unfolding place_along back_along all_pens default_colours empty line_step core.step
 two_sheets = refl
 
@@ -115,12 +115,17 @@ polygon_off_range : refusal_in (outcome page (codes "PM;PD1,1,8388607.1,0;")) �
 unfolding place_along back_along all_pens default_colours empty line_step core.step trace_step
 polygon_off_range = refl
 
--- a sheet ends only if it has a stroke
-first_sheet_ends : ends_with [] 3 ≡ 3 ∷ []
-first_sheet_ends = refl
+-- a sheet ends only if it has a stroke or an image
+is_more : Agree (
+    (has_more [] 3 [] 0, true)  -- the first one has strokes
+    ∷ (has_more [] 0 [] 1, true)  -- or an image
+    ∷ (has_more (3 ∷ []) 3 (1 ∷ []) 1, false)  -- nothing after the first one
+    ∷ (has_more (3 ∷ []) 3 (1 ∷ []) 2, true)  -- an image after it
+    ∷ [])
+is_more = refl
 
-empty_sheet : ends_with (3 ∷ []) 3 ≡ 3 ∷ []
-empty_sheet = refl
+one_more_end : ends_with true (3 ∷ []) 5 ≡ 3 ∷ 5 ∷ []
+one_more_end = refl
 
 -- three sheets, of which the last ends with the plot: in order, they have all strokes
 abbrev three : List Segment
@@ -128,9 +133,10 @@ three = line 0 0 160 0 ∷ line 160 0 320 0 ∷ line 320 0 480 0 ∷ []
 
 -- how many sheets there are
 counts : Agree (
-    (sheet_count [] 0, 0)  -- nothing is drawn
-    ∷ (sheet_count (3 ∷ []) 5, 2)  -- the last ends with the plot
-    ∷ (sheet_count (1 ∷ 2 ∷ []) 3, 3)  -- three sheets
+    (sheet_count [] 0 [] 0, 0)  -- nothing is drawn
+    ∷ (sheet_count (3 ∷ []) 5 (0 ∷ []) 0, 2)  -- the last ends with the plot
+    ∷ (sheet_count (1 ∷ 2 ∷ []) 3 (0 ∷ 0 ∷ []) 0, 3)  -- three sheets
+    ∷ (sheet_count (1 ∷ []) 1 (0 ∷ []) 1, 2)  -- the last has an image only
     ∷ [])
 counts = refl
 

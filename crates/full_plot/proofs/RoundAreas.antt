@@ -1,5 +1,5 @@
 -- The edges of each area of a plot that is accepted lead round closed polygons.
-use Rattle.std.proofs.Common.{◌≡◌, ◌∙◌, ap, sym, subst, refl, ℕ, ℤ, Bool, true, false, true≢false, List, [], ◌∷◌, length, map, All, Option, Some, None, Result, Ok, Err}
+use Rattle.std.proofs.Common.{◌≡◌, ◌∙◌, ap, sym, subst, refl, ℕ, ℤ, Bool, true, false, true≢false, List, [], ◌∷◌, map, All, Option, Some, None, Result, Ok, Err}
 use Rattle.std.specs.Prelude.{if◌then◌else◌, ⊤}
 use Rattle.std.proofs.lemmas.Bool.{or_parts}
 use Rattle.areas.specs.Laws.{AreRound}
@@ -28,8 +28,9 @@ use Rattle.full_notes.specs.Notes.{after_body, request_after}
 use Rattle.full_plot.specs.Drawings.{full_at_start_with, full_ended, full_runs, is_too_much}
 use Rattle.full_plot.specs.Fills.{edge_span, edges_inked, solid_filled}
 use Rattle.full_plot.specs.Items.{full_steps, request_steps, taken}
-use Rattle.full_plot.specs.Machine.{FullStep, ends_with, run}
-use Rattle.full_plot.specs.Worlds.{FullWorld}
+use Rattle.full_plot.specs.Machine.{FullStep, run}
+use Rattle.full_plot.specs.Sheets.{sheet_ended}
+use Rattle.full_plot.specs.Worlds.{FullWorld, Graphics}
 use Rattle.full_plot.proofs.AreasHave.{Have, all_have, have_added, have_on, on_kept}
 use Rattle.full_plot.proofs.Changes.{In}
 use Rattle.full_plot.proofs.FittingSteps.{all_fit}
@@ -64,8 +65,8 @@ round_drawn w s ss r =
     }
 
 round_aside : (w v : FullWorld) → v.context ≡ w.context → v.core.kept ≡ w.core.kept → v.ends ≡ w.ends → v.areas ≡ w.areas
-    → (w.core.full ≡ true → v.core.full ≡ true) → Follows w v.buffer → StaysRound w v
-round_aside w v c k e a full b = record {
+    → v.graphics ≡ w.graphics → (w.core.full ≡ true → v.core.full ≡ true) → Follows w v.buffer → StaysRound w v
+round_aside w v c k e a g full b = record {
   context_is = c;
   full_stays = full;
   stays = λ h. record {
@@ -75,8 +76,16 @@ round_aside w v c k e a full b = record {
   };
 }
 
-round_ended : (w : FullWorld) → StaysRound w (record w { ends = ends_with w.ends (length w.core.kept) })
+round_ended : (w : FullWorld) → StaysRound w (sheet_ended w)
 round_ended w = record {
+  context_is = refl;
+  full_stays = λ t. t;
+  stays = λ h. record { polygons = h.polygons; shut = h.shut; round = h.round };
+}
+
+-- what escapes make leaves areas alone
+round_graphics : (w : FullWorld) (g : Graphics) → StaysRound w (record w { graphics = g })
+round_graphics w g = record {
   context_is = refl;
   full_stays = λ t. t;
   stays = λ h. record { polygons = h.polygons; shut = h.shut; round = h.round };
@@ -113,6 +122,8 @@ round_changes = record {
   drawn = λ w s ss r m. round_drawn w s ss r;
   aside = round_aside;
   ended = round_ended;
+  machine = λ w m. round_graphics w _;
+  gathers = λ w. round_graphics w _;
   area = round_area;
 }
 

@@ -108,3 +108,12 @@ no_end_if false w v h = h
 pub no_end : (ps : List Span) (w : FullWorld) → (over_spans (Width 0) w ps).ends ≡ w.ends
 no_end [] w = refl
 no_end (p ∷ ps) w = no_end_if w.core.full w (over_spans (Width 0) (inked_span 0 w p) ps) (no_end ps (inked_span 0 w p))
+
+-- nor an image
+no_image_if : (full : Bool) (w v : FullWorld) → v.graphics ≡ w.graphics → (unless full w v).graphics ≡ w.graphics
+no_image_if true w v h = refl
+no_image_if false w v h = h
+
+pub no_image : (ps : List Span) (w : FullWorld) → (over_spans (Width 0) w ps).graphics ≡ w.graphics
+no_image [] w = refl
+no_image (p ∷ ps) w = no_image_if w.core.full w (over_spans (Width 0) (inked_span 0 w p) ps) (no_image ps (inked_span 0 w p))

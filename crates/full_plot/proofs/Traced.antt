@@ -29,8 +29,7 @@ use Rattle.full_settings.specs.WidthParameters.{percent_width}
 use Rattle.full_notes.specs.Contexts.{Context, body_read, is_bad_further, is_bad_in_polygons, is_edge, is_misplaced, numbers_read, read_in, request_in}
 use Rattle.full_notes.specs.Notes.{after_body, params_after, request_after}
 use Rattle.full_plot.specs.Items.{as_core, full_steps, letters_steps, more_steps, params_steps, request_steps, size_by, width_steps, widths_steps}
-use Rattle.full_plot.specs.Machine.{FullStep, Core, Rewiden, Letter, Curve, EndSheet}
-use Rattle.full_notes.specs.Escapes.{escape_asks}
+use Rattle.full_plot.specs.Machine.{FullStep, Core, Rewiden, Letter, Curve}
 use Rattle.full_plot.proofs.Changes.{either_by, is_silent}
 use Rattle.full_plot.proofs.FullChanges.{are_silent}
 use Rattle.full_plot.proofs.Stills.{ArePlain, entries_plain, is_plain, params_plain}
@@ -166,11 +165,6 @@ moves_plain Down ns = params_plain is.PenDown ns refl refl
 moves_plain Absolute ns = params_plain is.PlotAbsolute ns refl refl
 moves_plain Relative ns = params_plain is.PlotRelative ns refl refl
 
--- the end of a sheet draws nothing
-ends_silent : (ends in_polygon : Bool) → are_silent in_polygon (if ends then EndSheet ∷ [] else []) ≡ true
-ends_silent true in_polygon = refl
-ends_silent false in_polygon = refl
-
 body_silent : (c : Context) (b : BodyShape) → c.in_polygon ≡ true → is_bad_in_polygons b ≡ false
     → are_silent (after_body c b).in_polygon (full_steps c b) ≡ true
 body_silent c (Params i ns) on h = params_silent c i ns on h
@@ -182,7 +176,6 @@ body_silent c (DamagedMoves moves ns) on h =
 body_silent c (DamagedCurves relative ns) on h =
     when_on c.in_polygon (map (Curve relative) (curve_points ns)) on (curves_silent relative (curve_points ns))
 body_silent c (Label text) on h = absurd (true≢false h)
-body_silent c (shape.Escape taken) on h = ends_silent (escape_asks taken).ends_sheet c.in_polygon
 body_silent c b on h = refl
 
 read_is_good : (usual : Bool) (b : BodyShape) → is_bad_in_polygons b ≡ false → is_bad_in_polygons (body_read usual b) ≡ false

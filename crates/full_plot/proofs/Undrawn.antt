@@ -21,8 +21,10 @@ same_changes = record {
   joined = λ w v u h k. record { kept_are = k.kept_are ∙ h.kept_are; context_is = k.context_is ∙ h.context_is };
   context_is = λ w v h. h.context_is;
   drawn = λ w s ss r m. absurd m;
-  aside = λ w v c k e a full b. record { kept_are = k; context_is = c };
+  aside = λ w v c k e a g full b. record { kept_are = k; context_is = c };
   ended = λ w. record { kept_are = refl; context_is = refl };
+  machine = λ w m. record { kept_are = refl; context_is = refl };
+  gathers = λ w. record { kept_are = refl; context_is = refl };
   area = λ w rule off h. record { kept_are = h.kept_are; context_is = h.context_is };
 }
 

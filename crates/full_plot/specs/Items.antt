@@ -20,14 +20,14 @@ use Rattle.full_settings.specs.LetterParameters.{letter_direction}
 use Rattle.full_settings.specs.UserMoves.{user_moves}
 use Rattle.full_settings.specs.WidthParameters.{percent_width}
 use Rattle.full_notes.specs.Contexts.{Context, read_in, request_in}
-use Rattle.full_notes.specs.Escapes.{escape_asks}
 use Rattle.full_notes.specs.Notes.{context_after}
+use Rattle.full_plot.specs.Commands.{asked_of, page_end}
 use Rattle.full_plot.specs.Worlds.{FullWorld}
 use Rattle.full_plot.specs.Machine.{FullStep, Core, Style, Restyle, Restart, Widen, Rewiden, PointsBy, Letter}
 use Rattle.full_plot.specs.Machine.{CharactersBy, InkBy, Mark}
 use Rattle.full_plot.specs.Machine.{Keep, Print, Place, TickBy, Tick, ArcThrough, Curve, PolygonBy, EdgeBuffer}
 use Rattle.full_plot.specs.Machine.{FillBuffer, FillBy, AnchorBy, Rectangle, WedgeEdge, WedgeFill, EndSheet, run}
-use Rattle.full_plot.specs.Machine.{UserMoveBy, UserEnd}
+use Rattle.full_plot.specs.Machine.{UserMoveBy, UserEnd, Obey}
 
 -- UC: its moves, and the way on; without numbers nothing
 abbrev pub character_steps : List ℤ → List FullStep
@@ -101,7 +101,7 @@ params_steps c PenWidth ns = width_steps c.in_percent ns
 params_steps c PenColour ns = as_core (sets (pen_colour_in c.ranges ns)).steps
 params_steps c instruction ns = as_core (meaning instruction ns).steps ++ more_steps instruction ns
 
--- what an item does; of escapes only those that end a sheet do something, since images are not drawn
+-- what an item does
 abbrev pub full_steps : Context → BodyShape → List FullStep
 full_steps c (shape.Further f ns) = request_steps (request_in c f ns) ns
 full_steps c (Params instruction ns) = params_steps c instruction ns
@@ -109,8 +109,8 @@ full_steps c (DamagedMoves moves ns) = as_core (move_steps moves ns)
 full_steps c (DamagedCurves relative ns) = map (Curve relative) (curve_points ns)
 full_steps c (Kept bytes) = Keep bytes ∷ []
 full_steps c (Symbol byte) = Mark byte ∷ []
-full_steps c (shape.Escape taken) = if (escape_asks taken).ends_sheet then EndSheet ∷ [] else []
-full_steps c shape.FormFeed = EndSheet ∷ []
+full_steps c (shape.Escape taken) = Obey (asked_of taken) ∷ []
+full_steps c shape.FormFeed = Obey page_end ∷ []
 full_steps c body = as_core (body_steps body)
 
 -- an item is read by the context before it, and makes its steps in the one after it

@@ -22,11 +22,10 @@ use Rattle.hpgl_plot.specs.Machine as core
 use Rattle.hpgl_plot.specs.Strokes.{strokes, strokes_with, refusal_after}
 use Rattle.hpgl_plot.specs.Notes as noting
 use Rattle.full_settings.specs.Characters.{usual_characters}
-use Rattle.full_plot.specs.Drawings.{full_at_start, full_at_start_with, full_runs, outcome_with, refusal_in}
-use Rattle.full_plot.specs.Drawings.{strokes_in, ends_in, areas_of, sheet_count, sheet_strokes}
+use Rattle.full_plot.specs.Drawings.{finished, full_at_start, full_at_start_with, full_runs, outcome_with, refusal_in}
+use Rattle.full_plot.specs.Drawings.{strokes_in, ends_in, areas_of, images_in, image_ends_in, of_sheet, sheet_count}
 use Rattle.full_plot.specs.Worlds.{FullWorld}
-use Rattle.full_notes.specs.Contexts.{restarted}
-use Rattle.full_notes.specs.Notes.{body_noted, context_after, notes}
+use Rattle.full_notes.specs.Notes.{body_noted, context_after, notes_told}
 use Rattle.full_plot.specs.Items.{taken}
 use Rattle.full_plot.specs.Labels.{labels_of}
 
@@ -63,9 +62,10 @@ abbrev pub CoreRunsAsInCore : Type 0
 CoreRunsAsInCore = (page : Page) (items : List ItemShape) → All IsCoreItem items
     → core_part (full_runs (full_at_start page) items) ≡ core.runs (core.far_start empty page) items
 
--- the whole of a plot: it has this refusal, or else these strokes, on one sheet; and no areas
+-- the whole of a plot: it has this refusal, or else these strokes, on one sheet; no areas, and no images
 abbrev pub Draws : Result FullWorld PlotFault → Option PlotFault → List Segment → Type 0
-Draws r refused drawn = (refusal_in r ≡ refused) × (refused ≡ None → strokes_in r ≡ drawn) × (ends_in r ≡ []) × (areas_of r ≡ [])
+Draws r refused drawn =
+    (refusal_in r ≡ refused) × (refused ≡ None → strokes_in r ≡ drawn) × (ends_in r ≡ []) × (areas_of r ≡ []) × (images_in r ≡ [])
 
 -- the refusal of a plot of items of core where places lie as far as a number leads
 abbrev pub far_refusal_with : Carousel → Page → List ItemShape → Option PlotFault
@@ -80,20 +80,20 @@ CoreAcceptsNoMore = (page : Page) (before : List Step) (items : List ItemShape)
     → refusal_after FARTHEST_PLACE page before 0 items ≡ None → refusal_after FARTHEST_END page before 0 items ≡ None
 
 abbrev pub CoreDrawsAsInCore : Type 0
-CoreDrawsAsInCore = (page : Page) (items : List ItemShape) → All IsCoreItem items
-    → Draws (full_runs (full_at_start page) items) (far_refusal page items) (strokes page items)
+CoreDrawsAsInCore = (page : Page) (items : List ItemShape) (end : ℕ) → All IsCoreItem items
+    → Draws (finished end (full_runs (full_at_start page) items)) (far_refusal page items) (strokes page items)
 
 -- the same with the same pens in both, if texts are read by a set that has ASCII, or as UTF-8
 abbrev pub CoreDrawsAsInCoreWith : Type 0
 CoreDrawsAsInCoreWith =
-    (encoding : Encoding) (carousel : Carousel) (page : Page) (items : List ItemShape)
+    (encoding : Encoding) (carousel : Carousel) (page : Page) (items : List ItemShape) (end : ℕ)
     → IsTrue (reads_ascii encoding usual_characters.sets) → All IsCoreItem items
-    → Draws (full_runs (full_at_start_with encoding carousel page) items)
+    → Draws (finished end (full_runs (full_at_start_with encoding carousel page) items))
     (far_refusal_with carousel page items) (strokes_with carousel page items)
 
 -- what is noted on them
 abbrev pub CoreNotedAsInCore : Type 0
-CoreNotedAsInCore = (items : List ItemShape) → All IsCoreItem items → notes items ≡ noting.notes items
+CoreNotedAsInCore = (items : List ItemShape) → All IsCoreItem items → notes_told [] items ≡ noting.notes items
 
 -- what is drawn before a wrong number: moves to the pairs of coordinates before an unpaired one or a wrong byte, and curves
 -- before the numbers that make none or such a byte; the moves of UC before a number alone; the other commands of an escape
@@ -121,9 +121,8 @@ abbrev pub PolygonModeDrawsNothing : Type 0
 PolygonModeDrawsNothing = (w v : FullWorld) (i : ItemShape) → w.context.in_polygon ≡ true → taken w i.body ≡ Some v
     → v.core.kept ≡ w.core.kept
 
--- as at the start, but for the page, the carousel, the strokes, the ends of sheets, the areas, the work that counts, and whether
--- data of an image have come; and for
--- the widths in percent, which have no effect before widths are in percent again
+-- as at the start, but for the page, the carousel, the strokes, the ends of sheets, the areas, the work that counts and what
+-- escapes make; and for the widths in percent, which have no effect before widths are in percent again
 abbrev pub started_again : FullWorld → FullWorld
 started_again w = record (full_at_start w.core.page) {
   core = record w.core { state = (core.at_start_with w.core.state.carousel w.core.page).state };
@@ -132,7 +131,7 @@ started_again w = record (full_at_start w.core.page) {
   extra = w.extra;
   ends = w.ends;
   areas = w.areas;
-  context = restarted w.context;
+  graphics = w.graphics;
 }
 
 -- IN and BP
@@ -145,14 +144,23 @@ abbrev pub NotesAreTold : Type 0
 NotesAreTold = (w v : FullWorld) (i : ItemShape) → full_runs w (i ∷ []) ≡ Ok v
     → v.context ≡ context_after w.context i.body
 
--- the strokes of the sheets of a plot, in order, are its strokes, and no later sheet has one
-pub record AreSheets (strokes : List Segment) (ends : List ℕ) : Type 0 where
-  pub joined : flat_map (sheet_strokes strokes ends) (range_with_len 1 (sheet_count ends (length strokes))) ≡ strokes
-  pub later : (sheet : ℕ) → sheet_count ends (length strokes) < sheet → sheet_strokes strokes ends sheet ≡ []
+-- the parts that so many sheets have of a list are all of it, and no later sheet has one
+pub record AreSheets {A : Type 0} (list : List A) (ends : List ℕ) (sheets : ℕ) : Type 0 where
+  pub joined : flat_map (of_sheet list ends) (range_with_len 1 sheets) ≡ list
+  pub later : (sheet : ℕ) → sheets < sheet → of_sheet list ends sheet ≡ []
+
+-- the number of sheets of a plot
+abbrev pub sheets_in : Result FullWorld PlotFault → ℕ
+sheets_in r = sheet_count (ends_in r) (length (strokes_in r)) (image_ends_in r) (length (images_in r))
+
+-- the strokes of the sheets of a plot, in order, are its strokes, and the images of its sheets are its images
+pub record SheetsJoinIn (r : Result FullWorld PlotFault) : Type 0 where
+  pub strokes : AreSheets (strokes_in r) (ends_in r) (sheets_in r)
+  pub images : AreSheets (images_in r) (image_ends_in r) (sheets_in r)
 
 abbrev pub SheetsJoin : Type 0
 SheetsJoin = (encoding : Encoding) (carousel : Carousel) (page : Page) (plot : List ℕ)
-    → AreSheets (strokes_in (outcome_with encoding carousel page plot)) (ends_in (outcome_with encoding carousel page plot))
+    → SheetsJoinIn (outcome_with encoding carousel page plot)
 
 -- each label of a plot begins after the one before it has ended
 abbrev pub LabelsAreInOrder : Type 0

@@ -1,5 +1,5 @@
 -- What a reader must believe: what is set, how lines are drawn in line types, polygons and wedges, fills, labels, curves,
--- the steps of items, what plots draw, and that plots of core stay as they are.
+-- sheets and images, the steps of items, what plots draw and what is noted on them, and that plots of core stay as they are.
 pub mod Worlds
 pub mod Work
 pub mod Dashing
@@ -12,10 +12,13 @@ pub mod Fills
 pub mod Bold
 pub mod Texts
 pub mod Curves
+pub mod Sheets
+pub mod Commands
 pub mod Machine
 pub mod Items
 pub mod Drawings
 pub mod Labels
+pub mod Noted
 pub mod Laws
 -- What contracts of private calls need: the context after an instruction, and ranges.
 pub mod ContextsAfter

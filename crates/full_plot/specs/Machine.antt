@@ -1,7 +1,7 @@
 -- A plot in the profile full, one step at a time: the steps of core, with lines in the line type and labels in the
 -- style that is set, and further steps.
-use Rattle.std.specs.Prelude.{ℕ, Bool, true, false, List, [], ◌∷◌, ◌++◌, length, nat_lt}
-use Rattle.std.specs.Prelude.{if◌then◌else◌, Option, Some, None}
+use Rattle.std.specs.Prelude.{ℕ, Bool, true, false, List, [], ◌∷◌, length}
+use Rattle.std.specs.Prelude.{Option, Some, None}
 use Rattle.plot_page.specs.declared.page.Page.{Page}
 use Rattle.exact.specs.declared.spot.Spot.{Spot}
 use Rattle.polygons.specs.Buffers.{empty_buffer}
@@ -35,10 +35,12 @@ use Rattle.full_settings.specs.LineStyles.{style_with, usual_style, diagonal}
 use Rattle.full_settings.specs.RelativePoints.{setting_of}
 use Rattle.full_settings.specs.Widths.{widths_by, percents_with, grains_with}
 use Rattle.full_plot.specs.declared.plotter.FullPlotter.{FullPlotter}
+use Rattle.full_plot.specs.Commands.{Asked, obeyed_all}
 use Rattle.full_plot.specs.Curves.{arc_step, curve_step, if_in_range, curve_pen}
 use Rattle.full_plot.specs.Fills.{buffer_filled}
 use Rattle.full_plot.specs.Inks.{ink_set}
 use Rattle.full_plot.specs.Polygons.{edge_step, edges_drawn, kept_step, lined_step, polygon_set}
+use Rattle.full_plot.specs.Sheets.{sheet_ended}
 use Rattle.full_plot.specs.Texts.{at_margin, lettered, marked_by, moved_by_characters, ticked, written}
 use Rattle.full_plot.specs.UserCharacters.{user_ended, user_moved}
 use Rattle.full_plot.specs.Wedges.{wedge_edged, wedge_kept}
@@ -165,7 +167,7 @@ then_filled (Some w) = Some (buffer_filled false w)
 -- other P1 and P2; P1 and P2 by IR; how strokes show; how letters are written; what CS, CA, SS, SA, SD or AD sets; the symbol of SM; the
 -- text of BL, and PB; a CP; what TL sets, and XT or YT; an AT or an RT, and a curve of BZ or BR; a PM; EP, and FP by
 -- winding or not; what FT and AC set; an RA or an RR; an EW, and a WG; a move of UC, and its
--- end; the end of a sheet
+-- end; the end of a sheet; what commands of HP RTL ask
 pub data FullStep : Type 0 where
   Core : Step → FullStep
   Style : LineSetting → FullStep
@@ -196,15 +198,7 @@ pub data FullStep : Type 0 where
   UserMoveBy : UserMove → FullStep
   UserEnd : FullStep
   EndSheet : FullStep
-
--- a sheet ends if it has a stroke; no strokes are taken from one sheet to the next
-abbrev pub last_end : List ℕ → ℕ
-last_end [] = 0
-last_end (end ∷ []) = end
-last_end (end ∷ (next ∷ ends)) = last_end (next ∷ ends)
-
-abbrev pub ends_with : List ℕ → ℕ → List ℕ
-ends_with ends count = if nat_lt (last_end ends) count then ends ++ count ∷ [] else ends
+  Obey : List Asked → FullStep
 
 -- no step sets what decides how items are read; an LT or a UL ends the run
 abbrev pub full_step : FullWorld → FullStep → Option FullWorld
@@ -236,7 +230,8 @@ full_step w (WedgeEdge wedge) = wedge_edged w wedge
 full_step w (WedgeFill wedge) = then_filled (wedge_kept w wedge)
 full_step w (UserMoveBy m) = user_moved w m
 full_step w UserEnd = user_ended w
-full_step w EndSheet = Some (record w { ends = ends_with w.ends (length w.core.kept) })
+full_step w EndSheet = Some (sheet_ended w)
+full_step w (Obey asked) = obeyed_all asked w
 
 abbrev pub run : FullWorld → List FullStep → Option FullWorld
 run w [] = Some w
@@ -258,4 +253,5 @@ seen p = record {
   extra = p.extra;
   ends = p.ends.items;
   areas = p.areas.items;
+  graphics = p.graphics;
 }

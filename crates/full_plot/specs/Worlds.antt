@@ -13,6 +13,9 @@ use Rattle.full_settings.specs.Letters.{LetterStyle, usual_letters}
 use Rattle.full_settings.specs.LineStyles as styles
 use Rattle.full_settings.specs.TickParameters.{usual_ticks}
 use Rattle.full_notes.specs.Contexts.{Context}
+use Rattle.page_images.specs.PageImages.{ImageShape}
+use Rattle.raster_graphics.specs.declared.machine.Machine.{Machine}
+use Rattle.raster_graphics.specs.Machines.{start}
 use Rattle.full_plot.specs.declared.filling.Filling.{Filling}
 
 -- what is set for labels: how letters are written, the symbol at the ends of moves (SM), the text that is kept (BL),
@@ -35,11 +38,22 @@ page_origin = record { x = pos 0; y = pos 0 }
 abbrev pub usual_filling : Filling
 usual_filling = record { fill = usual_fill; anchor = page_origin }
 
+-- what escapes make: the machine of HP RTL, out of which images are taken when they are done; the images of the plot; and for
+-- each sheet that has ended, how many of these there were then
+pub record Graphics : Type 0 where
+  pub machine : Machine
+  pub images : List ImageShape
+  pub ends : List ℕ
+
+-- at the start; IN, BP and DF leave it as it is
+abbrev pub no_graphics : Graphics
+no_graphics = record { machine = start; images = []; ends = [] }
+
 -- what core has: the page, the state and the strokes; what decides how the next item is read; the line style, and the run
 -- of its pattern; the widths of pens in percent, which have an effect while widths are in percent; how the user reads
 -- texts, and the sets of characters and the fonts that the plot has chosen; what is set for labels, and their left
 -- margin, a place; how polygons are filled, and the polygon buffer; how much work besides strokes counts; for each sheet
--- that has ended, how many strokes were made until then; and the areas, whose edges are strokes
+-- that has ended, how many strokes were made until then; the areas, whose edges are strokes; and what escapes make
 pub record FullWorld : Type 0 where
   pub core : core.World
   pub context : Context
@@ -55,6 +69,7 @@ pub record FullWorld : Type 0 where
   pub extra : ℕ
   pub ends : List ℕ
   pub areas : List Area
+  pub graphics : Graphics
 
 -- what core leaves, or None if it stops
 abbrev pub with_core : FullWorld → Option core.World → Option FullWorld

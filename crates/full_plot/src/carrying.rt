@@ -1,10 +1,11 @@
 //! Carrying out a plot, one item at a time.
-ghost use Rattle.std.specs.Prelude.{◌≡◌, IfOk};
-ghost use Rattle.full_notes.specs.Notes.{body_noted};
-ghost use Rattle.full_plot.specs.Drawings.{full_at_start, full_at_start_with, is_too_much, full_runs, CarriesOut};
+ghost use Rattle.std.specs.Prelude.{◌≡◌, IfErr, IfOk, OnOk, Ok};
+ghost use Rattle.full_plot.specs.Drawings.{finished, full_at_start, full_at_start_with, is_too_much, full_runs, CarriesOut, Explains};
 ghost use Rattle.full_plot.specs.Machine.{seen};
+ghost use Rattle.full_plot.specs.Noted.{full_noted};
 
 use crate::filling::Filling;
+use crate::graphics::Graphics;
 use crate::plotter::FullPlotter;
 use crate::writing::Writing;
 use carousel::Carousel;
@@ -15,6 +16,7 @@ use hpgl_plot::{NoteKind, PlotFault, Plotter, Stop};
 use hpgl_text::Item;
 use plot_page::{MOST_STROKES, Page};
 use polygons::Buffer;
+use raster_graphics::Fault;
 use std::alloc::Global;
 
 impl FullPlotter {
@@ -46,6 +48,7 @@ impl FullPlotter {
             extra: 0,
             ends: Vec::new(alloc),
             areas: Vec::new(alloc),
+            graphics: Graphics::new(alloc),
             alloc,
         }
     }
@@ -54,7 +57,7 @@ impl FullPlotter {
     /// place out of range, or of a stroke too many.
     pub fn carry_out(&mut self, item: &Item<'_>) -> Result<Option<NoteKind>, PlotFault>
         ensures carried { CarriesOut full_runs (seen self.old) item.now (seen self.new) result }
-        ensures noted { IfOk result (λ noted. noted ≡ body_noted (seen self.old).context item.now.body) }
+        ensures noted { IfOk result (λ noted. noted ≡ full_noted (seen self.old) item.now.body) }
     {
         match self.take(item) {
             Ok(noted) => {
@@ -66,6 +69,18 @@ impl FullPlotter {
             }
             Err(Stop::Memory) => Err(PlotFault::Memory),
             Err(Stop::OffRange) => Err(PlotFault::OffRange { at: item.at }),
+        }
+    }
+
+    /// Closes the image that is open after the last item, at the plot's end.
+    pub fn finish(&mut self, end: usize) -> Result<(), PlotFault>
+        ensures done { OnOk result (finished end (Ok (seen self.old)) ≡ Ok (seen self.new)) }
+        ensures refused { IfErr result (λ fault. Explains fault (finished end (Ok (seen self.old)))) }
+    {
+        match self.graphics.close(self.alloc) {
+            Ok(()) => self.gather().map_err(|_| PlotFault::Memory),
+            Err(Fault::Memory) => Err(PlotFault::Memory),
+            Err(_) => Err(PlotFault::OffRange { at: end }),
         }
     }
 

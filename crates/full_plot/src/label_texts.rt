@@ -2,10 +2,10 @@
 ghost use Rattle.std.specs.Prelude.{◌≡◌, ◌++◌, length, option_map, IfOk, Some};
 ghost use Rattle.hpgl_text.specs.Seen.{body_shape};
 ghost use Rattle.hpgl_plot.specs.Machine.{CarriesOut};
-ghost use Rattle.full_notes.specs.Notes.{body_noted};
 ghost use Rattle.full_plot.specs.Drawings.{full_runs};
 ghost use Rattle.full_plot.specs.Labels.{label_between, label_of, labels_kept, lines_of, text_written};
 ghost use Rattle.full_plot.specs.Machine.{seen};
+ghost use Rattle.full_plot.specs.Noted.{full_noted};
 
 use crate::plotter::FullPlotter;
 use hpgl_plot::{NoteKind, PlotFault};
@@ -25,7 +25,7 @@ impl FullPlotter {
         labels: &mut Vec<Label>,
     ) -> Result<Option<NoteKind>, PlotFault>
         ensures carried { CarriesOut full_runs (seen self.old) item.now (seen self.new) result }
-        ensures noted { IfOk result (λ noted. noted ≡ body_noted (seen self.old).context item.now.body) }
+        ensures noted { IfOk result (λ noted. noted ≡ full_noted (seen self.old) item.now.body) }
         ensures labels { IfOk result (λ _. labels.new.items ≡ labels.old.items
             ++ labels_kept keeps_labels (label_between (seen self.old) item.now.body (seen self.new))) }
     {
@@ -43,7 +43,7 @@ impl FullPlotter {
         labels: &mut Vec<Label>,
     ) -> Result<Option<NoteKind>, PlotFault>
         ensures carried { CarriesOut full_runs (seen self.old) item.now (seen self.new) result }
-        ensures noted { IfOk result (λ noted. noted ≡ body_noted (seen self.old).context item.now.body) }
+        ensures noted { IfOk result (λ noted. noted ≡ full_noted (seen self.old) item.now.body) }
         ensures labels { IfOk result (λ _. labels.new.items
             ≡ labels.old.items ++ label_between (seen self.old) item.now.body (seen self.new)) }
     {

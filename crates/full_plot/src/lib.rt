@@ -1,5 +1,5 @@
 //! What a plot draws in the profile full: the instructions of core, line types, labels in any direction, symbols,
-//! ticks, curves, polygons and their fills, widths in percent and ranges of colours.
+//! ticks, curves, polygons and their fills, widths in percent, ranges of colours, and images.
 #![tactic(auto)]
 
 mod bold;
@@ -9,11 +9,13 @@ mod curve_steps;
 mod dashing;
 mod drawn;
 mod edges;
+mod escapes_obeyed;
 mod figures;
 mod fill_lines;
 mod filling;
 mod fills;
 mod further;
+mod graphics;
 mod ink;
 mod inks;
 mod label_texts;
@@ -35,6 +37,11 @@ mod writing;
 pub use carousel::Carousel;
 pub use drawn::{FullDrawn, draw_full, draw_full_with};
 pub use filling::Filling;
+pub use graphics::Graphics;
+pub use page_images::PageImage;
 pub use plotter::FullPlotter;
-pub use sheets::{areas_on, keep_areas_of, keep_labels_of, keep_sheet, labels_on, sheet_of};
+pub use sheets::{
+    areas_on, images_on, keep_areas_of, keep_labels_of, keep_sheet, labels_on, sheet_end, sheet_of,
+    start_of,
+};
 pub use writing::Writing;

@@ -4,6 +4,7 @@ ghost use Rattle.directions.specs.Bounds.{IsWithin};
 ghost use Rattle.full_plot.specs.Fillings.{IsFilling};
 
 use crate::filling::Filling;
+use crate::graphics::Graphics;
 use crate::writing::Writing;
 use areas::Area;
 use character_sets::Encoding;
@@ -45,6 +46,8 @@ pub struct FullPlotter {
     pub ends: Vec<usize>,
     /// The areas that solid fills drew.
     pub areas: Vec<Area>,
+    /// What escapes make.
+    pub graphics: Graphics,
     pub alloc: Global,
     pub ghost margin_in: { IsWithin (2 ^ 96) margin },
     pub ghost filling_in: { IsFilling filling },

@@ -3,11 +3,12 @@ ghost use Rattle.std.specs.Prelude.{◌≡◌, drop, take, slice_index_or};
 ghost use Rattle.areas.specs.Shapes.{AreApart};
 ghost use Rattle.areas.specs.Views.{areas_in};
 ghost use Rattle.labels.specs.Sheets.{all_counted};
-ghost use Rattle.full_plot.specs.Drawings.{areas_of_sheet, sheet_end, sheet_start, sheet_strokes};
+ghost use Rattle.full_plot.specs.Drawings.{areas_of_sheet, of_sheet, sheet_end, sheet_images, sheet_start, sheet_strokes};
 ghost use Rattle.full_plot.specs.Labels.{labels_of_sheet};
 
 use areas::{Area, Areas, keep_areas};
 use labels::{Label, keep_labels, labels_between};
+use page_images::PageImage;
 use plot_page::Stroke;
 
 /// Keeps the strokes of a sheet alone, in their order; for 0 it keeps those of all sheets. `ends`
@@ -30,12 +31,27 @@ pub fn keep_sheet(strokes: &mut Vec<Stroke>, ends: &[usize], sheet: u32)
 pub fn sheet_of<'a>(strokes: &'a [Stroke], ends: &[usize], sheet: u32) -> &'a [Stroke]
     ensures { result.now ≡ sheet_strokes strokes.now ends.now sheet }
 {
+    of_sheet(strokes, ends, sheet)
+}
+
+/// The images of a sheet, in their order; for 0 those of all sheets. `image_ends` tells how many images there were when each
+/// sheet ended.
+pub fn images_on<'a>(images: &'a [PageImage], image_ends: &[usize], sheet: u32) -> &'a [PageImage]
+    ensures { result.now ≡ sheet_images images.now image_ends.now sheet }
+{
+    of_sheet(images, image_ends, sheet)
+}
+
+// What a list has for a sheet, by where sheets end in the list.
+fn of_sheet<'a, T>(list: &'a [T], ends: &[usize], sheet: u32) -> &'a [T]
+    ensures { result.now ≡ of_sheet list.now ends.now sheet }
+{
     if sheet == 0 {
-        return strokes;
+        return list;
     }
-    let count = strokes.len();
+    let count = list.len();
     let before = sheet as usize - 1;
-    let kept = front(strokes, end_of(ends, before, count));
+    let kept = front(list, end_of(ends, before, count));
     if before == 0 {
         return kept;
     }
@@ -99,8 +115,8 @@ pub fn areas_on<'a>(areas: &'a [Area], ends: &[usize], count: usize, sheet: u32)
     Areas::between(areas, start, sheet_end(ends, count, sheet))
 }
 
-// How many strokes there were when a sheet began.
-fn start_of(ends: &[usize], count: usize, sheet: u32) -> usize
+/// How many strokes there were when a sheet began, which counts from 1; none for 0.
+pub fn start_of(ends: &[usize], count: usize, sheet: u32) -> usize
     ensures { result ≡ sheet_start ends.now count sheet }
 {
     if sheet <= 1 {
@@ -110,8 +126,8 @@ fn start_of(ends: &[usize], count: usize, sheet: u32) -> usize
     }
 }
 
-// How many there were when it ended.
-fn sheet_end(ends: &[usize], count: usize, sheet: u32) -> usize
+/// How many there were when it ended; all for 0.
+pub fn sheet_end(ends: &[usize], count: usize, sheet: u32) -> usize
     ensures { result ≡ sheet_end ends.now count sheet }
 {
     if sheet == 0 {
@@ -121,18 +137,18 @@ fn sheet_end(ends: &[usize], count: usize, sheet: u32) -> usize
     }
 }
 
-// The first `count` strokes, or all if there are fewer.
-fn front(strokes: &[Stroke], count: usize) -> &[Stroke]
-    ensures { result.now ≡ take count strokes.now }
+// The first `count` of a list, or all if there are fewer.
+fn front<T>(list: &[T], count: usize) -> &[T]
+    ensures { result.now ≡ take count list.now }
 {
-    &strokes[..count.min(strokes.len())]
+    &list[..count.min(list.len())]
 }
 
-// The strokes after the first `count`; none if there are no more.
-fn after(strokes: &[Stroke], count: usize) -> &[Stroke]
-    ensures { result.now ≡ drop count strokes.now }
+// Those after the first `count`; none if there are no more.
+fn after<T>(list: &[T], count: usize) -> &[T]
+    ensures { result.now ≡ drop count list.now }
 {
-    &strokes[count.min(strokes.len())..]
+    &list[count.min(list.len())..]
 }
 
 // How many strokes there were when the sheet with so many sheets before it ended: all, if it ended with the plot.

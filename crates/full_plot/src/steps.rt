@@ -1,20 +1,20 @@
 //! What the items of a plot do.
-ghost use Rattle.std.specs.Prelude.{◌≡◌, ◌++◌, IfOk, Some, [], ◌∷◌};
+ghost use Rattle.std.specs.Prelude.{◌≡◌, ◌++◌, IfOk, Some};
 ghost use Rattle.hpgl_text.specs.declared.instruction.Instruction.TheVariants as of;
 ghost use Rattle.plot_settings.specs.Meanings.{asks, meaning, sets, DrawArc, DrawCircle, entry_steps, part_steps};
 ghost use Rattle.plot_settings.specs.Parameters.{arced, circled};
 ghost use Rattle.full_settings.specs.ColourRanges.{pen_colour_in};
 ghost use Rattle.full_notes.specs.Contexts.{params_read};
-ghost use Rattle.full_notes.specs.Notes.{after_body, bad_if, bad_without, body_noted, noted_on, params_noted};
-ghost use Rattle.hpgl_text.specs.Shapes.{Escape};
-ghost use Rattle.full_plot.specs.Items.{as_core, full_steps, more_steps, params_steps, size_by, taken};
+ghost use Rattle.full_notes.specs.Notes.{bad_if, bad_without, params_noted};
+ghost use Rattle.full_plot.specs.Items.{as_core, more_steps, params_steps, size_by, taken};
 ghost use Rattle.full_plot.specs.ContextsAfter.{after_params};
-ghost use Rattle.full_plot.specs.Machine.{seen, full_step, run, last_end, Runs, Restyle, Restart, EndSheet};
+ghost use Rattle.full_plot.specs.Machine.{seen, full_step, run, Runs, Restyle, Restart};
+ghost use Rattle.full_plot.specs.Noted.{full_noted};
 
 use crate::filling::Filling;
 use crate::plotter::FullPlotter;
 use crate::writing::Writing;
-use full_notes::{arc_read, bad_without, circle_read, escape_asks, escape_noted, is_misplaced};
+use full_notes::{arc_read, bad_without, circle_read, is_misplaced};
 use full_settings::{Characters, LetterSetting, LineStyle, colour_in, direction_setting};
 use hpgl_plot::{NoteKind, Stop};
 use hpgl_text::{Body, Entries, Entry, Instruction, Item, Numbers, Part};
@@ -25,7 +25,7 @@ impl FullPlotter {
     /// its first byte. One that asks for nothing does nothing.
     pub fn take(&mut self, item: &Item<'_>) -> Result<Option<NoteKind>, Stop>
         ensures runs { Runs (taken (seen self.old) item.now.body) (seen self.new) result }
-        ensures noted { IfOk result (λ noted. noted ≡ body_noted (seen self.old).context item.now.body) }
+        ensures noted { IfOk result (λ noted. noted ≡ full_noted (seen self.old) item.now.body) }
     {
         if is_misplaced(&item.body, self.context.in_polygon) {
             return Ok(Some(NoteKind::Bad));
@@ -60,28 +60,13 @@ impl FullPlotter {
             Body::Terminator(_) | Body::Known => Ok(None),
             Body::Escape(taken) => self.take_escape(taken),
             Body::FormFeed => {
-                self.end_sheet()?;
+                self.end_page()?;
                 Ok(None)
             }
             Body::Skipped => Ok(Some(NoteKind::Skipped)),
             Body::Bad => Ok(Some(NoteKind::Bad)),
             Body::Stray(byte) => Ok(Some(NoteKind::Stray(*byte))),
         }
-    }
-
-    // An escape: a sheet may end. Images are not drawn.
-    fn take_escape(&mut self, taken: &[u8]) -> Result<Option<NoteKind>, Stop>
-        ensures runs { Runs (run (record (seen self.old) { context = after_body (seen self.old).context (Escape taken.now) })
-            (full_steps (seen self.old).context (Escape taken.now))) (seen self.new) result }
-        ensures noted { IfOk result (λ noted. noted ≡ noted_on (seen self.old).context (Escape taken.now)) }
-    {
-        let asks = escape_asks(taken);
-        let noted = escape_noted(asks, self.context.has_image);
-        self.context.pass_escape(asks);
-        if asks.ends_sheet {
-            self.end_sheet()?;
-        }
-        Ok(noted)
     }
 
     // Carries out an instruction of core.
@@ -219,17 +204,6 @@ impl FullPlotter {
         self.margin = self.plotter.state.place;
     }
 
-    /// Ends a sheet, if it has a stroke.
-    pub(crate) fn end_sheet(&mut self) -> Result<(), Stop>
-        ensures { Runs (run (seen self.old) (EndSheet ∷ [])) (seen self.new) result }
-    {
-        let count = self.plotter.strokes.len();
-        if last_end(&self.ends) < count {
-            self.ends.push(count).map_err(|_| Stop::Memory)?;
-        }
-        Ok(())
-    }
-
     // What each entry of a PE asks for.
     fn follow_entries(&mut self, entries: Entries<'_>) -> Result<(), Stop>
         ensures { Runs (run (seen self.old) (as_core (entry_steps entries.entry))) (seen self.new) result }
@@ -267,15 +241,5 @@ fn size_by(numbers: &Numbers<'_>) -> LetterSetting
         LetterSetting::FontSize
     } else {
         LetterSetting::AbsoluteSize
-    }
-}
-
-// How many strokes there were when the last sheet ended.
-pub(crate) fn last_end(ends: &Vec<usize>) -> usize
-    ensures { result ≡ last_end ends.now.items }
-{
-    match ends.as_slice() {
-        [] => 0,
-        [.., last] => *last,
     }
 }

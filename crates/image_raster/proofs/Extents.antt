@@ -18,7 +18,7 @@ use Rattle.stroke_raster.specs.declared.vector.Vector.{Vector}
 use Rattle.stroke_raster.specs.Covers.{centre, in_window}
 use Rattle.stroke_raster.specs.Gap.{scaled, way}
 use Rattle.image_raster.specs.Dots.{across, along, corner, is_number, number_at, shown_at_pixel, shown_in, shown_on_way}
-use Rattle.image_raster.specs.declared.placed.PlacedImage.{PlacedImage}
+use Rattle.page_images.specs.PageImages.{ImageShape}
 use Rattle.image_raster.specs.Ways.{away, goes_right, shown_turned}
 
 -- before the first row, or the first dot
@@ -139,18 +139,18 @@ abbrev middle : ℕ → ℤ
 middle column = pos ((2 * column + 1) * 8128)
 
 -- at so many rows, or dots, an image shows nothing, nor farther away
-abbrev pub IsPast : PlacedImage → ℕ → Type 0
-IsPast i count = (r : ℕ) (w : Vector) → pos count ≤ℤ number_at i.image.now.settings.resolution r (away i.turn w.x) → shown_on_way i r w ≡ None
+abbrev pub IsPast : ImageShape → ℕ → Type 0
+IsPast i count = (r : ℕ) (w : Vector) → pos count ≤ℤ number_at i.image.settings.resolution r (away i.turn w.x) → shown_on_way i r w ≡ None
 
 -- so it is at a distance in which they lie
-past_extent : (i : PlacedImage) (r count : ℕ) (w : Vector) (extent : ℤ) → 0 < r → IsPast i count → pos 0 ≤ℤ extent
-    → ((z : ℕ) → extent ≤ℤ pos z → count * (16256 * r) ≤ z * i.image.now.settings.resolution) → extent ≤ℤ away i.turn w.x → shown_on_way i r w ≡ None
+past_extent : (i : ImageShape) (r count : ℕ) (w : Vector) (extent : ℤ) → 0 < r → IsPast i count → pos 0 ≤ℤ extent
+    → ((z : ℕ) → extent ≤ℤ pos z → count * (16256 * r) ≤ z * i.image.settings.resolution) → extent ≤ℤ away i.turn w.x → shown_on_way i r w ≡ None
 past_extent i r count w extent h past some far l = by_size (away i.turn w.x) refl
   where
     by_size : (z : ℤ) → z ≡ away i.turn w.x → shown_on_way i r w ≡ None
     by_size (negsuc n) e = absurd (omega (arith, ints, some, l, e))
     by_size (pos n) e =
-        past r w (number_from i.image.now.settings.resolution r count n (away i.turn w.x) h (far n (rw e l)) (omega (arith, ints, e)))
+        past r w (number_from i.image.settings.resolution r count n (away i.turn w.x) h (far n (rw e l)) (omega (arith, ints, e)))
 
 right_of : (turn : Turn) (x : ℤ) → goes_right turn ≡ true → away turn x ≡ x
 right_of turn x e = rw e refl
@@ -159,44 +159,44 @@ left_of : (turn : Turn) (x : ℤ) → goes_right turn ≡ false → away turn x 
 left_of turn x e = rw e refl
 
 -- the way from an image's corner to the centre of a pixel
-abbrev way_to : PlacedImage → Page → Dots → ℕ → ℕ → Vector
+abbrev way_to : ImageShape → Page → Dots → ℕ → ℕ → Vector
 way_to i page dots row column = way (scaled (pos dots.resolution) (corner i)) (centre page.height dots.resolution row column)
 
-nothing_at : (i : PlacedImage) (page : Page) (dots : Dots) (row column : ℕ) → shown_on_way i dots.resolution (way_to i page dots row column) ≡ None
+nothing_at : (i : ImageShape) (page : Page) (dots : Dots) (row column : ℕ) → shown_on_way i dots.resolution (way_to i page dots row column) ≡ None
     → shown_at_pixel i page dots row column ≡ None
 nothing_at i page dots row column h =
-    none_if (in_window i.window dots.resolution (centre page.height dots.resolution row column)) (shown_on_way i dots.resolution (way_to i page dots row column)) h
+    none_if (in_window i.frame.window dots.resolution (centre page.height dots.resolution row column)) (shown_on_way i dots.resolution (way_to i page dots row column)) h
 
 -- the columns before its corner, and those from its extent on, if it goes to the right
-pub none_left : (i : PlacedImage) (page : Page) (dots : Dots) (row column : ℕ) (at : ℤ) → 0 < i.image.now.settings.resolution → 0 < dots.resolution
-    → goes_right i.turn ≡ true → at ≡ pos dots.resolution *ℤ i.corner.x → middle column <ℤ at → shown_at_pixel i page dots row column ≡ None
+pub none_left : (i : ImageShape) (page : Page) (dots : Dots) (row column : ℕ) (at : ℤ) → 0 < i.image.settings.resolution → 0 < dots.resolution
+    → goes_right i.turn ≡ true → at ≡ pos dots.resolution *ℤ i.frame.ax → middle column <ℤ at → shown_at_pixel i page dots row column ≡ None
 none_left i page dots row column at d h e same l =
     let w = way_to i page dots row column in
     let a = right_of i.turn w.x e in
-    nothing_at i page dots row column (none_before i.turn i.image.now dots.resolution w d h (rw a (omega (arith, ints, same, l))))
+    nothing_at i page dots row column (none_before i.turn i.image dots.resolution w d h (rw a (omega (arith, ints, same, l))))
 
-pub none_right : (i : PlacedImage) (page : Page) (dots : Dots) (row column : ℕ) (at extent : ℤ) (count : ℕ) → 0 < dots.resolution
-    → IsPast i count → pos 0 ≤ℤ extent → ((z : ℕ) → extent ≤ℤ pos z → count * (16256 * dots.resolution) ≤ z * i.image.now.settings.resolution)
-    → goes_right i.turn ≡ true → at ≡ pos dots.resolution *ℤ i.corner.x → (at +ℤ extent) ≤ℤ middle column → shown_at_pixel i page dots row column ≡ None
+pub none_right : (i : ImageShape) (page : Page) (dots : Dots) (row column : ℕ) (at extent : ℤ) (count : ℕ) → 0 < dots.resolution
+    → IsPast i count → pos 0 ≤ℤ extent → ((z : ℕ) → extent ≤ℤ pos z → count * (16256 * dots.resolution) ≤ z * i.image.settings.resolution)
+    → goes_right i.turn ≡ true → at ≡ pos dots.resolution *ℤ i.frame.ax → (at +ℤ extent) ≤ℤ middle column → shown_at_pixel i page dots row column ≡ None
 none_right i page dots row column at extent count h past some far e same l =
     let w = way_to i page dots row column in
     let a = right_of i.turn w.x e in
     nothing_at i page dots row column (past_extent i dots.resolution count w extent h past some far (rw a (omega (arith, ints, same, l))))
 
 -- and if it goes to the left
-pub none_left_of_left : (i : PlacedImage) (page : Page) (dots : Dots) (row column : ℕ) (at extent : ℤ) (count : ℕ) → 0 < dots.resolution
-    → IsPast i count → pos 0 ≤ℤ extent → ((z : ℕ) → extent ≤ℤ pos z → count * (16256 * dots.resolution) ≤ z * i.image.now.settings.resolution)
-    → goes_right i.turn ≡ false → at ≡ pos dots.resolution *ℤ i.corner.x → middle column <ℤ (at -ℤ extent +ℤ pos 1)
+pub none_left_of_left : (i : ImageShape) (page : Page) (dots : Dots) (row column : ℕ) (at extent : ℤ) (count : ℕ) → 0 < dots.resolution
+    → IsPast i count → pos 0 ≤ℤ extent → ((z : ℕ) → extent ≤ℤ pos z → count * (16256 * dots.resolution) ≤ z * i.image.settings.resolution)
+    → goes_right i.turn ≡ false → at ≡ pos dots.resolution *ℤ i.frame.ax → middle column <ℤ (at -ℤ extent +ℤ pos 1)
     → shown_at_pixel i page dots row column ≡ None
 none_left_of_left i page dots row column at extent count h past some far e same l =
     let w = way_to i page dots row column in
     let a = left_of i.turn w.x e in
     nothing_at i page dots row column (past_extent i dots.resolution count w extent h past some far (rw a (omega (arith, ints, same, l))))
 
-pub none_right_of_left : (i : PlacedImage) (page : Page) (dots : Dots) (row column : ℕ) (at : ℤ) → 0 < i.image.now.settings.resolution
-    → 0 < dots.resolution → goes_right i.turn ≡ false → at ≡ pos dots.resolution *ℤ i.corner.x → (at +ℤ pos 1) ≤ℤ middle column
+pub none_right_of_left : (i : ImageShape) (page : Page) (dots : Dots) (row column : ℕ) (at : ℤ) → 0 < i.image.settings.resolution
+    → 0 < dots.resolution → goes_right i.turn ≡ false → at ≡ pos dots.resolution *ℤ i.frame.ax → (at +ℤ pos 1) ≤ℤ middle column
     → shown_at_pixel i page dots row column ≡ None
 none_right_of_left i page dots row column at d h e same l =
     let w = way_to i page dots row column in
     let a = left_of i.turn w.x e in
-    nothing_at i page dots row column (none_before i.turn i.image.now dots.resolution w d h (rw a (omega (arith, ints, same, l))))
+    nothing_at i page dots row column (none_before i.turn i.image dots.resolution w d h (rw a (omega (arith, ints, same, l))))

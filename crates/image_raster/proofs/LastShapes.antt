@@ -6,7 +6,7 @@ use Rattle.std.proofs.lemmas.List.Elements.{All-head, All-tail}
 use Rattle.plot_page.specs.declared.colour.Colour.{Colour}
 use Rattle.plot_page.specs.declared.dots.Dots.{Dots}
 use Rattle.plot_page.specs.declared.page.Page.{Page}
-use Rattle.image_raster.specs.declared.placed.PlacedImage.{PlacedImage}
+use Rattle.page_images.specs.PageImages.{ImageShape}
 use Rattle.image_raster.specs.Dots.{shown_at_pixel}
 use Rattle.image_raster.specs.Cells.{mark_of, is_mark, is_over, covered, cell_with, cell_with_all}
 use Rattle.image_raster.specs.Laws.{LastShapeIsShown, ShowsNothing}
@@ -46,7 +46,7 @@ stays_under : (position before : ℕ) (shown : Option Colour) (cell : ℕ) → I
 stays_under position before None cell h = h
 stays_under position before (Some colour) cell h = under_if (is_over before cell) position (mark_of colour) cell (under_mark position colour) h
 
-all_under : (images : List PlacedImage) (page : Page) (dots : Dots) (row column position cell : ℕ) → IsUnder position cell
+all_under : (images : List ImageShape) (page : Page) (dots : Dots) (row column position cell : ℕ) → IsUnder position cell
     → IsUnder position (cell_with_all images page dots row column cell)
 all_under [] page dots row column position cell h = h
 all_under (i ∷ more) page dots row column position cell h =
@@ -54,11 +54,11 @@ all_under (i ∷ more) page dots row column position cell h =
     (stays_under position i.before (shown_at_pixel i page dots row column) cell h)
 
 -- images that show nothing change nothing
-nothing : (i : PlacedImage) (page : Page) (dots : Dots) (row column cell : ℕ) → ShowsNothing page dots row column i
+nothing : (i : ImageShape) (page : Page) (dots : Dots) (row column cell : ℕ) → ShowsNothing page dots row column i
     → cell_with i page dots row column cell ≡ cell
 nothing i page dots row column cell h = ap (λ (shown : Option Colour). covered i.before shown cell) h
 
-all_nothing : (images : List PlacedImage) (page : Page) (dots : Dots) (row column cell : ℕ) → All (ShowsNothing page dots row column) images
+all_nothing : (images : List ImageShape) (page : Page) (dots : Dots) (row column cell : ℕ) → All (ShowsNothing page dots row column) images
     → cell_with_all images page dots row column cell ≡ cell
 all_nothing [] page dots row column cell h = refl
 all_nothing (i ∷ more) page dots row column cell h =
@@ -72,12 +72,12 @@ hidden before position (Some colour) h k =
     let e : is_over before position ≡ false = neither (nat_le position before) (is_mark position) (less position before h) (less (2 ^ 31) position k) in
     rw e refl
 
-shows_stroke : (images : List PlacedImage) (page : Page) (dots : Dots) (row column position : ℕ) → position < 2 ^ 31
-    → All (λ (i : PlacedImage). position ≤ i.before → ShowsNothing page dots row column i) images
+shows_stroke : (images : List ImageShape) (page : Page) (dots : Dots) (row column position : ℕ) → position < 2 ^ 31
+    → All (λ (i : ImageShape). position ≤ i.before → ShowsNothing page dots row column i) images
     → cell_with_all images page dots row column position ≡ position
 shows_stroke [] page dots row column position h all = refl
 shows_stroke (i ∷ more) page dots row column position h all =
-    let P : PlacedImage → Type 0 = λ j. position ≤ j.before → ShowsNothing page dots row column j in
+    let P : ImageShape → Type 0 = λ j. position ≤ j.before → ShowsNothing page dots row column j in
     let one : cell_with i page dots row column position ≡ position = elim (cases_lt i.before position) [
       | inl before ↦ hidden i.before position (shown_at_pixel i page dots row column) before h
       | inr after ↦ nothing i page dots row column position (All-head P i more all after)
@@ -85,7 +85,7 @@ shows_stroke (i ∷ more) page dots row column position h all =
     ap (cell_with_all more page dots row column) one ∙ shows_stroke more page dots row column position h (All-tail P i more all)
 
 -- images one after another
-joined : (before after : List PlacedImage) (page : Page) (dots : Dots) (row column cell : ℕ)
+joined : (before after : List ImageShape) (page : Page) (dots : Dots) (row column cell : ℕ)
     → cell_with_all (before ++ after) page dots row column cell
     ≡ cell_with_all after page dots row column (cell_with_all before page dots row column cell)
 joined [] after page dots row column cell = refl
@@ -94,7 +94,7 @@ joined (i ∷ more) after page dots row column cell = joined more after page dot
 shows_colour : (before : ℕ) (colour : Colour) (cell : ℕ) → is_over before cell ≡ true → covered before (Some colour) cell ≡ mark_of colour
 shows_colour before colour cell e = rw e refl
 
-shows_image : (before after : List PlacedImage) (i : PlacedImage) (page : Page) (dots : Dots) (row column position : ℕ) (colour : Colour)
+shows_image : (before after : List ImageShape) (i : ImageShape) (page : Page) (dots : Dots) (row column position : ℕ) (colour : Colour)
     → position ≤ i.before → shown_at_pixel i page dots row column ≡ Some colour → All (ShowsNothing page dots row column) after
     → cell_with_all (before ++ i ∷ after) page dots row column position ≡ mark_of colour
 shows_image before after i page dots row column position colour h e none =

@@ -13,7 +13,7 @@ use Rattle.raster_graphics.specs.Dots.{shown_at}
 use Rattle.stroke_raster.specs.declared.vector.Vector.{Vector}
 use Rattle.stroke_raster.specs.Covers.{centre, in_window}
 use Rattle.stroke_raster.specs.Gap.{scaled, way}
-use Rattle.image_raster.specs.declared.placed.PlacedImage.{PlacedImage}
+use Rattle.page_images.specs.PageImages.{ImageShape}
 
 -- how far a way leads from row to row of an image that is turned, and how far along a row: without a turn the next row lies in
 -- the direction of x, and a row runs along y
@@ -43,18 +43,18 @@ shown_in image row column =
     if is_number row && is_number column then shown_at image (nat_abs row) (nat_abs column) else None
 
 -- the image's corner
-abbrev pub corner : PlacedImage → Vector
-corner i = record { x = i.corner.x; y = i.corner.y }
+abbrev pub corner : ImageShape → Vector
+corner i = record { x = i.frame.ax; y = i.frame.ay }
 
 -- the colour that it shows at a place, if it shows one there
-abbrev pub shown_on_way : PlacedImage → ℕ → Vector → Option Colour
+abbrev pub shown_on_way : ImageShape → ℕ → Vector → Option Colour
 shown_on_way i r w =
-    let density = i.image.now.settings.resolution in
-    shown_in i.image.now (number_at density r (across i.turn w)) (number_at density r (along i.turn w))
+    let density = i.image.settings.resolution in
+    shown_in i.image (number_at density r (across i.turn w)) (number_at density r (along i.turn w))
 
-abbrev pub shown_at_place : PlacedImage → ℕ → Vector → Option Colour
-shown_at_place i r p = if in_window i.window r p then shown_on_way i r (way (scaled (pos r) (corner i)) p) else None
+abbrev pub shown_at_place : ImageShape → ℕ → Vector → Option Colour
+shown_at_place i r p = if in_window i.frame.window r p then shown_on_way i r (way (scaled (pos r) (corner i)) p) else None
 
 -- the colour at the centre of a pixel
-abbrev pub shown_at_pixel : PlacedImage → Page → Dots → ℕ → ℕ → Option Colour
+abbrev pub shown_at_pixel : ImageShape → Page → Dots → ℕ → ℕ → Option Colour
 shown_at_pixel i page dots row column = shown_at_place i dots.resolution (centre page.height dots.resolution row column)

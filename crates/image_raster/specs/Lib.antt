@@ -3,4 +3,5 @@ pub mod Dots
 pub mod Cells
 pub mod Laws
 -- What contracts of private functions need.
+pub mod Placed
 pub mod Ways

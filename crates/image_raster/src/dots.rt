@@ -4,6 +4,7 @@ ghost use Rattle.plot_page.specs.Resolutions.{columns_of, rows_of};
 ghost use Rattle.stroke_raster.specs.Bounds.{Within};
 ghost use Rattle.stroke_raster.specs.Covers.{in_window};
 ghost use Rattle.stroke_raster.specs.Gap.{scaled, way};
+ghost use Rattle.image_raster.specs.Placed.{shape};
 ghost use Rattle.image_raster.specs.Ways.{vector};
 ghost use Rattle.image_raster.specs.Dots.{corner, is_number, shown_in, shown_on_way, shown_at_pixel};
 
@@ -18,10 +19,10 @@ impl<'a> PlacedImage<'a> {
     pub fn shown_at_pixel(&self, page: &Page, dots: Dots, row: u32, column: u32) -> Option<Colour>
         requires row_in { row < rows_of page.now dots }
         requires column_in { column ≤ columns_of page.now dots }
-        ensures { result ≡ shown_at_pixel self.now page.now dots row column }
+        ensures { result ≡ shown_at_pixel (shape self.now) page.now dots row column }
     {
         let place = centre_of(page, dots, row, column);
-        if !is_in_window(self.window, dots, place) {
+        if !is_in_window(self.frame.window, dots, place) {
             return None;
         }
         self.shown_on_way(dots, self.way_to(dots, place))
@@ -30,13 +31,13 @@ impl<'a> PlacedImage<'a> {
     // The way from its corner to a place.
     pub(crate) fn way_to(&self, dots: Dots, place: Vector) -> Way
         requires { Within (2 ^ 34) place }
-        ensures value { vector result ≡ way (scaled (pos dots.resolution) (corner self.now)) place }
+        ensures value { vector result ≡ way (scaled (pos dots.resolution) (corner (shape self.now))) place }
         ensures x_small { nat_abs result.x ≤ 2 ^ 45 }
         ensures y_small { nat_abs result.y ≤ 2 ^ 45 }
     {
         Way {
-            x: from_corner(dots, self.corner.x, place.x),
-            y: from_corner(dots, self.corner.y, place.y),
+            x: from_corner(dots, self.frame.ax, place.x),
+            y: from_corner(dots, self.frame.ay, place.y),
         }
     }
 
@@ -44,7 +45,7 @@ impl<'a> PlacedImage<'a> {
     fn shown_on_way(&self, dots: Dots, way: Way) -> Option<Colour>
         requires x_small { nat_abs way.x ≤ 2 ^ 45 }
         requires y_small { nat_abs way.y ≤ 2 ^ 45 }
-        ensures { result ≡ shown_on_way self.now dots.resolution (vector way) }
+        ensures { result ≡ shown_on_way (shape self.now) dots.resolution (vector way) }
     {
         let density = self.image.settings.resolution.number();
         self.shown_in(

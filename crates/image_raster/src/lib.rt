@@ -10,6 +10,5 @@ mod reach;
 mod way;
 
 pub use cells::{mark_of, paint_images};
-pub use directions::Turn;
+pub use page_images::{Image, PageImage, PageImages, Place, Turn};
 pub use placed::PlacedImage;
-pub use raster_graphics::{Image, Place};

@@ -2,6 +2,7 @@
 ghost use Rattle.std.specs.Prelude.{◌≡◌, ◌≤◌, ◌<◌, ◌^◌, ℕ, ℤ, true, nat_abs, None};
 ghost use Rattle.plot_page.specs.Resolutions.{rows_of};
 ghost use Rattle.image_raster.specs.Dots.{shown_at_pixel, shown_in};
+ghost use Rattle.image_raster.specs.Placed.{shape};
 ghost use Rattle.image_raster.specs.Ways.{shown_turned, with_x};
 
 use crate::dots::is_number;
@@ -15,7 +16,7 @@ impl<'a> PlacedImage<'a> {
     /// Whether it surely shows nothing in a row of pixels: a row crosses one of its rows, or the dots of one number.
     pub fn misses(&self, page: &Page, dots: Dots, row: u32) -> bool
         requires { row < rows_of page.now dots }
-        ensures { result ≡ true → (column : ℕ) → shown_at_pixel self.now page.now dots row column ≡ None }
+        ensures { result ≡ true → (column : ℕ) → shown_at_pixel (shape self.now) page.now dots row column ≡ None }
     {
         self.misses_along(dots, self.way_to(dots, centre_of(page, dots, row, 0)))
     }

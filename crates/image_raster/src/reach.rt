@@ -3,6 +3,7 @@ ghost use Rattle.std.specs.Prelude.{◌≡◌, ◌+◌, ◌*◌, ◌<◌, ◌≤
 ghost use Rattle.plot_page.specs.declared.page.Page.{Page};
 ghost use Rattle.stroke_raster.specs.declared.vector.Vector.{Vector};
 ghost use Rattle.image_raster.specs.Dots.{number_at, shown_on_way, shown_at_pixel};
+ghost use Rattle.image_raster.specs.Placed.{shape};
 ghost use Rattle.image_raster.specs.Ways.{away, goes_right};
 
 use crate::placed::PlacedImage;
@@ -23,9 +24,9 @@ impl<'a> PlacedImage<'a> {
     pub fn columns_reached(&self, dots: Dots, columns: u32) -> Columns
         ensures within { result.end ≤ columns }
         ensures before { (page : Page) (row column : ℕ) → column < result.low
-            → shown_at_pixel self.now page dots row column ≡ None }
+            → shown_at_pixel (shape self.now) page dots row column ≡ None }
         ensures after { (page : Page) (row column : ℕ) → result.end ≤ column → column < columns
-            → shown_at_pixel self.now page dots row column ≡ None }
+            → shown_at_pixel (shape self.now) page dots row column ≡ None }
     {
         let corner = self.corner_along_x(dots);
         let density = self.image.settings.resolution.number();
@@ -39,10 +40,10 @@ impl<'a> PlacedImage<'a> {
 
     // Where its corner is along x, in grains divided by the resolution.
     fn corner_along_x(&self, dots: Dots) -> i128
-        ensures value { result ≡ pos dots.resolution *ℤ self.now.corner.x }
+        ensures value { result ≡ pos dots.resolution *ℤ self.now.frame.ax }
         ensures small { nat_abs result ≤ 2 ^ 45 }
     {
-        -from_corner(dots, self.corner.x, 0)
+        -from_corner(dots, self.frame.ax, 0)
     }
 
     // Whether its rows, or the dots of its rows, go in the direction of x, and not against it.
@@ -55,23 +56,13 @@ impl<'a> PlacedImage<'a> {
     // How many rows, or dots of a row, it has along x.
     fn count_along_x(&self) -> u64
         ensures { (r : ℕ) (w : Vector) → pos result ≤ℤ number_at self.now.image.now.settings.resolution r (away self.now.turn w.x)
-            → shown_on_way self.now r w ≡ None }
+            → shown_on_way (shape self.now) r w ≡ None }
     {
         match self.turn {
-            Turn::None => self.row_count(),
+            Turn::None => self.rows,
             Turn::Quarter => self.image.width,
-            Turn::Half => self.row_count(),
+            Turn::Half => self.rows,
             Turn::ThreeQuarters => self.image.width,
-        }
-    }
-
-    // The number after that of its last row.
-    fn row_count(&self) -> u64
-        ensures { (k : ℕ) → k < length self.now.image.now.numbers → get_or self.now.image.now.numbers k 0 < result }
-    {
-        match self.image.numbers.as_slice() {
-            [] => 0,
-            [.., last] => u64::from(*last) + 1,
         }
     }
 }

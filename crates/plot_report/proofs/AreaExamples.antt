@@ -42,7 +42,7 @@ list strokes areas = record { strokes = strokes; areas = areas }
 
 -- the report on strokes and areas on one sheet
 abbrev report : ShapeList → List ℕ
-report shapes = full_report_of (report_page page) 1 shapes []
+report shapes = full_report_of (report_page page) 1 shapes [] []
 
 -- the pen of an area is that of its last edge; one without edges has none
 pens : Agree ((last_pen (square 7), 7) ∷ (last_pen (dot ∷ stroke 3 0 (pos 0) (pos 0) (pos 1) (pos 1) ∷ []), 3) ∷ (last_pen [], 0) ∷ [])
@@ -56,8 +56,8 @@ reports : Agree (
     ∷ (report (list (square 2 ++ across ∷ stroke 2 0 (pos 0) (pos 8) (pos 16) (pos 1600) ∷ []) (area 0 4 ∷ area 5 6 ∷ [])), codes "page 64 64 0 0\nsheets 1\nstrokes 1\nareas 2\npen 1 strokes 1 widest 224 box 0 448 1024 448\npen 2 areas 2 edges 5 box 0 8 768 1600\n")
     ∷ (report (plain (square 1)), codes "page 64 64 0 0\nsheets 1\nstrokes 4\npen 1 strokes 4 widest 0 box 256 256 768 768\n")  -- the strokes of a square
     -- the sheets follow the page, and the notes the pens
-    ∷ (full_report_of (report_page page) 3 (plain (across ∷ [])) (record { at = 0; code = codes "PM"; kind = Skipped } ∷ []), codes "page 64 64 0 0\nsheets 3\nstrokes 1\npen 1 strokes 1 widest 224 box 0 448 1024 448\nnote 0 skipped PM\n")
-    ∷ (full_report_of (report_page page) 0 (plain []) [], codes "page 64 64 0 0\nsheets 0\nstrokes 0\n")  -- no sheet
+    ∷ (full_report_of (report_page page) 3 (plain (across ∷ [])) [] (record { at = 0; code = codes "PM"; kind = Skipped } ∷ []), codes "page 64 64 0 0\nsheets 3\nstrokes 1\npen 1 strokes 1 widest 224 box 0 448 1024 448\nnote 0 skipped PM\n")
+    ∷ (full_report_of (report_page page) 0 (plain []) [] [], codes "page 64 64 0 0\nsheets 0\nstrokes 0\n")  -- no sheet
     ∷ [])
 unfolding digits shape_lines
 reports = refl

@@ -4,13 +4,15 @@ use Rattle.std.specs.Fmt.{digit_glyph, digits, digits_onto, signed_decimal}
 use Rattle.std.specs.List.{join_with_byte, range_with_len}
 use Rattle.plot_page.specs.Segments.{Segment}
 use Rattle.areas.specs.Shapes.{Shape, ShapeList, shapes}
+use Rattle.page_images.specs.Frames.{row_count}
+use Rattle.page_images.specs.PageImages.{ImageShape}
 use Rattle.hpgl_plot.specs.declared.note.Note.{Note}
 use Rattle.hpgl_plot.specs.declared.note.NoteKind.{NoteKind}
 use Rattle.hpgl_plot.specs.declared.note.NoteKind.TheVariants.{Skipped, Bad, Stray, Axis, Open}
 use Rattle.hpgl_text.specs.Bytes.{escape}
 use Rattle.plot_report.specs.declared.report_page.ReportPage.{ReportPage}
 use Rattle.plot_report.specs.declared.summary.StrokeSummary.{StrokeSummary}
-use Rattle.plot_report.specs.Report.{all_edges, area_line, areas_among, areas_line, edges_line, full_report_of, kind_words, letters, line, note_line, page_line, pen_line, pen_lines, pen_shape_lines, report_of, shape_lines, shapes_of, sheets_line, space, strokes_among, strokes_line, strokes_of, summary_line, summary_of}
+use Rattle.plot_report.specs.Report.{all_edges, area_line, areas_among, areas_line, edges_line, full_report_of, image_line, images_line, kind_words, letters, line, note_line, page_line, pen_line, pen_lines, pen_shape_lines, report_of, shape_lines, shapes_of, sheets_line, space, strokes_among, strokes_line, strokes_of, summary_line, summary_of}
 
 either_few : (b : Bool) (xs ys : List ℕ) (n : ℕ) → length xs ≤ n → length ys ≤ n → length (cond b xs ys) ≤ n
 either_few true xs ys n h k = h
@@ -82,6 +84,19 @@ area_few pen (a ∷ more) = edges_few pen (length (a ∷ more)) (summary_of (all
 areas_few : (areas : ℕ) → length (areas_line areas) ≤ 1000
 areas_few areas = either_few (nat_eq areas 0) [] (line (codes "areas" ∷ decimal areas ∷ [])) 1000 (omega arith) (line_few (codes "areas" ∷ decimal areas ∷ []) (lit≤ tt, (decimal_few areas, tt)) (lit≤ tt))
 
+images_few : (images : ℕ) → length (images_line images) ≤ 1000
+images_few images = either_few (nat_eq images 0) [] (line (codes "images" ∷ decimal images ∷ [])) 1000 (omega arith) (line_few (codes "images" ∷ decimal images ∷ []) (lit≤ tt, (decimal_few images, tt)) (lit≤ tt))
+
+image_few : (i : ImageShape) → length (image_line i) ≤ 1000
+image_few i =
+    let s = summary_of (i.frame ∷ []) in
+    line_few (codes "image" ∷ decimal i.image.width ∷ decimal (row_count i.image.numbers) ∷ decimal i.image.settings.resolution ∷ codes "box" ∷ signed_decimal s.least_x ∷ signed_decimal s.least_y ∷ signed_decimal s.greatest_x ∷ signed_decimal s.greatest_y ∷ [])
+    (lit≤ tt, (decimal_few i.image.width, (decimal_few (row_count i.image.numbers), (decimal_few i.image.settings.resolution, (lit≤ tt, (signed_few s.least_x, (signed_few s.least_y, (signed_few s.greatest_x, (signed_few s.greatest_y, tt))))))))) (lit≤ tt)
+
+all_images_few : (images : List ImageShape) → length (flat_map image_line images) ≤ 1000 * length images
+all_images_few [] = omega arith
+all_images_few (i ∷ images) = omega (arith, image_few i, all_images_few images, length-append (image_line i) (flat_map image_line images))
+
 lines_few : (pen : ℕ) (shapes : List Shape) → length (pen_shape_lines pen shapes) ≤ 2000
 lines_few pen shapes =
     omega (arith, pen_few pen (strokes_among shapes), area_few pen (areas_among shapes), length-append (pen_line pen (strokes_among shapes)) (area_line pen (areas_among shapes)))
@@ -90,14 +105,15 @@ range_few : (f : ℕ → List ℕ) (a n : ℕ) → ((k : ℕ) → length (f k) �
 range_few f a zero h = omega arith
 range_few f a (suc n) h = omega (arith, h a, range_few f (a + 1) n h, length-append (f a) (flat_map f (range_with_len (a + 1) n)))
 
-pub shapes_few : (shapes : List Shape) → length (shape_lines shapes) ≤ 512000
+pub shapes_few : (images : ℕ) (shapes : List Shape) → length (shape_lines images shapes) ≤ 513000
 unfolding shape_lines
-shapes_few shapes =
+shapes_few images shapes =
     let a = strokes_line (strokes_among shapes) in
     let b = areas_line (length (areas_among shapes)) in
+    let k = images_line images in
     let f : ℕ → List ℕ = λ pen. pen_shape_lines pen (shapes_of pen shapes) in
     let p = flat_map f (range_with_len 1 255) in
-    omega (arith, strokes_few (strokes_among shapes), areas_few (length (areas_among shapes)), range_few f 1 255 (λ k. lines_few k (shapes_of k shapes)), length-append a b, length-append (a ++ b) p)
+    omega (arith, strokes_few (strokes_among shapes), areas_few (length (areas_among shapes)), range_few f 1 255 (λ k. lines_few k (shapes_of k shapes)), images_few images, length-append a b, length-append (a ++ b) k, length-append ((a ++ b) ++ k) p)
 
 pens_few : (strokes : List Segment) → length (pen_lines strokes) ≤ 510000
 unfolding pen_lines
@@ -136,10 +152,11 @@ report_few page strokes notes most few =
     let n = flat_map note_line notes in
     omega (arith, most, few, page_few page, strokes_few strokes, pens_few strokes, length-append a b, length-append (a ++ b) p, length-append ((a ++ b) ++ p) n)
 
-pub full_report_few : (page : ReportPage) (sheets : ℕ) (list : ShapeList) (notes : List Note) → length notes ≤ 67108864 → length (flat_map note_line notes) ≤ 1000 * length notes → length (full_report_of page sheets list notes) < 2 ^ 64
-full_report_few page sheets list notes most few =
+pub full_report_few : (page : ReportPage) (sheets : ℕ) (list : ShapeList) (images : List ImageShape) (notes : List Note) → length images ≤ 67108864 → length notes ≤ 67108864 → length (flat_map note_line notes) ≤ 1000 * length notes → length (full_report_of page sheets list images notes) < 2 ^ 64
+full_report_few page sheets list images notes few_images most few =
     let a = page_line page in
     let k = sheets_line sheets in
-    let p = shape_lines (shapes list.strokes list.areas) in
+    let p = shape_lines (length images) (shapes list.strokes list.areas) in
+    let m = flat_map image_line images in
     let n = flat_map note_line notes in
-    omega (arith, most, few, page_few page, sheets_few sheets, shapes_few (shapes list.strokes list.areas), length-append a k, length-append (a ++ k) p, length-append ((a ++ k) ++ p) n)
+    omega (arith, most, few, few_images, page_few page, sheets_few sheets, shapes_few (length images) (shapes list.strokes list.areas), all_images_few images, length-append a k, length-append (a ++ k) p, length-append ((a ++ k) ++ p) m, length-append (((a ++ k) ++ p) ++ m) n)

@@ -6,3 +6,4 @@ pub mod Walk
 pub mod Plain
 mod ReportExamples
 mod AreaExamples
+mod ImageExamples

@@ -7,7 +7,7 @@ use Rattle.areas.specs.Shapes.{Shape}
 use Rattle.plot_report.specs.declared.pens.PenSummary.{PenSummary}
 use Rattle.plot_report.specs.declared.pens.Summaries.{Summaries}
 use Rattle.plot_report.specs.declared.summary.StrokeSummary.{StrokeSummary}
-use Rattle.plot_report.specs.Report.{all_edges, area_line, areas_among, areas_line, edges_line, line, pen_line, pen_shape_lines, shape_lines, shapes_of, strokes_among, strokes_line, summary_of, summary_line}
+use Rattle.plot_report.specs.Report.{all_edges, area_line, areas_among, areas_line, edges_line, images_line, line, pen_line, pen_shape_lines, shape_lines, shapes_of, strokes_among, strokes_line, summary_of, summary_line}
 use Rattle.plot_report.specs.Summaries.{AreOf, areas_text, pen_summary, strokes_text, summary_text, summary_lines}
 
 range_more : (f : ℕ → List ℕ) (a n : ℕ) → flat_map f (range_with_len a (suc n)) ≡ flat_map f (range_with_len a n) ++ f (a + n)
@@ -68,6 +68,17 @@ line_of_no_areas n none =
     let test : nat_eq n 0 ≡ true = grind (arith, nat_tests) in
     ap (λ b. cond b [] (line (codes "areas" ∷ decimal n ∷ []))) test
 
+-- so have images
+pub line_of_images : (n : ℕ) → 0 < n → images_line n ≡ line (codes "images" ∷ decimal n ∷ [])
+line_of_images n some =
+    let test : nat_eq n 0 ≡ false = grind (arith, nat_tests) in
+    ap (λ b. cond b [] (line (codes "images" ∷ decimal n ∷ []))) test
+
+pub line_of_no_images : (n : ℕ) → n ≤ 0 → images_line n ≡ []
+line_of_no_images n none =
+    let test : nat_eq n 0 ≡ true = grind (arith, nat_tests) in
+    ap (λ b. cond b [] (line (codes "images" ∷ decimal n ∷ []))) test
+
 text_of_strokes : (pen : ℕ) (strokes : List Segment) → strokes_text pen (summary_of strokes) ≡ pen_line pen strokes
 text_of_strokes pen [] = refl
 text_of_strokes pen (s ∷ ss) = text_of_some pen (summary_of (s ∷ ss)) (omega arith)
@@ -83,10 +94,11 @@ text_of_shapes pen shapes =
     λ i. strokes i ++ areas i
 
 -- the table has the numbers of the shapes of each pen, so the lines are theirs
-pub lines_of_shapes : (s : Summaries) (shapes : List Shape) → AreOf s shapes
-    → strokes_line (strokes_among shapes) ++ areas_line (length (areas_among shapes)) ++ summary_lines s.pens 255 ≡ shape_lines shapes
+pub lines_of_shapes : (images : ℕ) (s : Summaries) (shapes : List Shape) → AreOf s shapes
+    → strokes_line (strokes_among shapes) ++ areas_line (length (areas_among shapes)) ++ images_line images ++ summary_lines s.pens 255
+    ≡ shape_lines images shapes
 unfolding summary_lines shape_lines
-lines_of_shapes s shapes h =
+lines_of_shapes images s shapes h =
     let pens = range_same (λ (pen : ℕ). summary_text pen (get_or s.pens pen (pen_summary []))) (λ (pen : ℕ). pen_shape_lines pen (shapes_of pen shapes)) 1 255
     (λ k from lt. ap (summary_text k) (h.pens k (pen_summary []) (omega (arith, from)) (omega (arith, lt))) ∙ text_of_shapes k (shapes_of k shapes)) in
-    ap (λ (zs : List ℕ). strokes_line (strokes_among shapes) ++ areas_line (length (areas_among shapes)) ++ zs) pens
+    ap (λ (zs : List ℕ). strokes_line (strokes_among shapes) ++ areas_line (length (areas_among shapes)) ++ images_line images ++ zs) pens

@@ -5,7 +5,7 @@ use Rattle.std.specs.List.{All, range_with_len}
 use Rattle.plot_page.specs.Segments.{Segment}
 use Rattle.areas.specs.Shapes.{AreApart, Shape, ShapeList, area_shape, edge_count, shapes, shapes_after, stroke_count, stroke_shape}
 use Rattle.areas.specs.declared.area.Area.{Area}
-use Rattle.plot_report.specs.Report.{areas_among, areas_line, area_line, pen_line, pen_lines, pen_shape_lines, shape_lines, shapes_of, strokes_among, strokes_line, strokes_of}
+use Rattle.plot_report.specs.Report.{areas_among, areas_line, area_line, images_line, pen_line, pen_lines, pen_shape_lines, shape_lines, shapes_of, strokes_among, strokes_line, strokes_of}
 use Rattle.plot_report.proofs.PenLines.{range_same}
 
 pub strokes_are_all : (ss : List Segment) → strokes_among (map stroke_shape ss) ≡ ss
@@ -31,14 +31,15 @@ lines_of_pen pen ss =
     ∙ append-nil (pen_line pen (strokes_of pen ss))
 
 -- without areas there are the lines of the strokes and of the pens
-pub lines_without_areas : (strokes : List Segment) → shape_lines (shapes strokes []) ≡ strokes_line strokes ++ pen_lines strokes
+pub lines_without_areas : (strokes : List Segment) → shape_lines 0 (shapes strokes []) ≡ strokes_line strokes ++ pen_lines strokes
 unfolding shape_lines pen_lines
 lines_without_areas strokes =
     let all = map stroke_shape strokes in
     let pens = range_same (λ (pen : ℕ). pen_shape_lines pen (shapes_of pen all)) (λ (pen : ℕ). pen_line pen (strokes_of pen strokes)) 1 255 (λ k from lt. lines_of_pen k strokes) in
     let nothing = append-nil (strokes_line strokes) in
-    (λ i. (strokes_line (strokes_are_all strokes i) ++ areas_line (length (no_areas strokes i))) ++ pens i)
-    ∙ ap (λ (zs : List ℕ). zs ++ flat_map (λ (pen : ℕ). pen_line pen (strokes_of pen strokes)) (range_with_len 1 255)) nothing
+    (λ i. ((strokes_line (strokes_are_all strokes i) ++ areas_line (length (no_areas strokes i))) ++ images_line 0) ++ pens i)
+    ∙ ap (λ (zs : List ℕ). zs ++ flat_map (λ (pen : ℕ). pen_line pen (strokes_of pen strokes)) (range_with_len 1 255))
+    (append-nil (strokes_line strokes ++ []) ∙ nothing)
 
 -- as many areas are among the shapes as there are
 areas_joined : (ss ts : List Shape) → areas_among (ss ++ ts) ≡ areas_among ss ++ areas_among ts

@@ -1,4 +1,4 @@
--- The report on a plot: lines of text on the page, the strokes and the areas of each pen, and the notes.
+-- The report on a plot: lines of text on the page, the strokes and the areas of each pen, the images, and the notes.
 use Rattle.std.specs.Prelude.{ℕ, max, ℤ, pos, List, [], ◌∷◌, ◌++◌, length, map, filter, flat_map, is_none, is_some, nat_eq, ◌==◌, slice_index, codes, if◌then◌else◌}
 use Rattle.std.specs.Prelude.{decimal}
 use Rattle.std.specs.List.{join_with_byte, range_with_len}
@@ -7,6 +7,8 @@ use Rattle.std.specs.Int.{int_max, int_min}
 use Rattle.plot_page.specs.declared.page.Page.{Page}
 use Rattle.plot_page.specs.Segments.{Segment}
 use Rattle.areas.specs.Shapes.{Shape, ShapeList, shapes}
+use Rattle.page_images.specs.Frames.{row_count}
+use Rattle.page_images.specs.PageImages.{ImageShape}
 use Rattle.hpgl_text.specs.Bytes.{escape}
 use Rattle.plot_report.specs.declared.report_page.ReportPage.{ReportPage}
 use Rattle.plot_report.specs.declared.summary.StrokeSummary.{StrokeSummary}
@@ -136,6 +138,16 @@ all_edges areas = flat_map (λ area. area.strokes) areas
 abbrev pub areas_line : ℕ → List ℕ
 areas_line areas = if nat_eq areas 0 then [] else line (codes "areas" ∷ decimal areas ∷ [])
 
+-- how many images there are; without images there is no such line
+abbrev pub images_line : ℕ → List ℕ
+images_line images = if nat_eq images 0 then [] else line (codes "images" ∷ decimal images ∷ [])
+
+-- an image: how many dots a row has, how many rows there are, how many dots there are to the inch, and the box of its frame
+abbrev pub image_line : ImageShape → List ℕ
+image_line i =
+    line (codes "image" ∷ decimal i.image.width ∷ decimal (row_count i.image.numbers) ∷ decimal i.image.settings.resolution
+    ∷ codes "box" ∷ corner_words (summary_of (i.frame ∷ [])))
+
 -- the pen of the last of these strokes, or 0 if there are none
 abbrev pub last_pen : List Segment → ℕ
 last_pen [] = 0
@@ -161,13 +173,14 @@ area_line pen (a ∷ more) = edges_line pen (length (a ∷ more)) (summary_of (a
 abbrev pub pen_shape_lines : ℕ → List Shape → List ℕ
 pen_shape_lines pen shapes = pen_line pen (strokes_among shapes) ++ area_line pen (areas_among shapes)
 
--- how many strokes and areas there are, and the lines of the pens, 1 to 255
-unfoldable pub shape_lines : List Shape → List ℕ
-shape_lines shapes =
-    strokes_line (strokes_among shapes) ++ areas_line (length (areas_among shapes))
+-- how many strokes, areas and images there are, and the lines of the pens, 1 to 255
+unfoldable pub shape_lines : ℕ → List Shape → List ℕ
+shape_lines images shapes =
+    strokes_line (strokes_among shapes) ++ areas_line (length (areas_among shapes)) ++ images_line images
     ++ flat_map (λ pen. pen_shape_lines pen (shapes_of pen shapes)) (range_with_len 1 255)
 
 -- the whole report in the profile full
-abbrev pub full_report_of : ReportPage → ℕ → ShapeList → List Note → List ℕ
-full_report_of page sheets list notes =
-    page_line page ++ sheets_line sheets ++ shape_lines (shapes list.strokes list.areas) ++ flat_map note_line notes
+abbrev pub full_report_of : ReportPage → ℕ → ShapeList → List ImageShape → List Note → List ℕ
+full_report_of page sheets list images notes =
+    page_line page ++ sheets_line sheets ++ shape_lines (length images) (shapes list.strokes list.areas)
+    ++ flat_map image_line images ++ flat_map note_line notes

@@ -1,5 +1,5 @@
 //! Laws of reports.
-ghost use Rattle.std.specs.Prelude.{◌≡◌, ◌≤◌, ◌++◌, flat_map, length};
+ghost use Rattle.std.specs.Prelude.{◌≡◌, ◌≤◌, [], ◌++◌, flat_map, length};
 ghost use Rattle.std.specs.List.{All};
 ghost use Rattle.areas.specs.Shapes.{AreApart, ShapeList, plain, shapes, stroke_count};
 ghost use Rattle.plot_report.specs.Report.{full_report_of, note_line, page_line, pen_lines, sheets_line, strokes_among, strokes_line};
@@ -8,9 +8,9 @@ use crate::report_page::ReportPage;
 use hpgl_plot::Note;
 use plot_page::Stroke;
 
-/// Without areas the report in the profile full is that in the profile core, with the line of the sheets.
+/// Without areas and images the report in the profile full is that in the profile core, with the line of the sheets.
 pub fn report_without_areas(page: ReportPage, sheets: usize, strokes: &[Stroke], notes: &[Note])
-    ensures { full_report_of page sheets (plain strokes.now) notes.now
+    ensures { full_report_of page sheets (plain strokes.now) [] notes.now
         ≡ page_line page ++ sheets_line sheets ++ strokes_line strokes.now ++ pen_lines strokes.now
         ++ flat_map note_line notes.now }
 {}

@@ -3,7 +3,7 @@ ghost use Rattle.std.specs.Prelude.{◌≡◌, ◌++◌, ◌∷◌, [], codes, d
 ghost use Rattle.std.specs.List.{join_with_byte};
 ghost use Rattle.pieces.specs.Texts.{IsSound, Puts};
 ghost use Rattle.plot_report.specs.Report.{space, line, page_line, sheets_line, corner_words, edges_line, summary_line};
-ghost use Rattle.plot_report.specs.Report.{kind_words, letters, note_line};
+ghost use Rattle.plot_report.specs.Report.{image_line, kind_words, letters, note_line};
 
 use crate::report_page::ReportPage;
 use crate::summary::StrokeSummary;
@@ -11,6 +11,7 @@ use crate::words::{put_number, put_word};
 use devices::Sink;
 use hpgl_plot::{Note, NoteKind};
 use hpgl_text::ESCAPE;
+use page_images::PageImage;
 use pieces::Text;
 
 // `page W H left below`
@@ -84,6 +85,29 @@ pub(crate) fn put_edges_line<K: Sink>(
     put_count(text, b"areas", areas);
     put_count(text, b"edges", of.strokes);
     put_box(text, of);
+    text.put(b"\n");
+}
+
+// `images N`
+pub(crate) fn put_images_line<K: Sink>(text: &mut Text<'_, K>, images: usize)
+    requires sound { IsSound K.state text.old }
+    ensures puts { Puts K.state text.old text.new (line (codes "images" ∷ decimal images ∷ [])) }
+{
+    text.put(b"images");
+    put_number(text, images);
+    text.put(b"\n");
+}
+
+// `image COLUMNS ROWS DOTS box X0 Y0 X1 Y1`
+pub(crate) fn put_image_line<K: Sink>(text: &mut Text<'_, K>, image: &PageImage)
+    requires sound { IsSound K.state text.old }
+    ensures puts { Puts K.state text.old text.new (image_line image.now) }
+{
+    text.put(b"image");
+    put_number(text, image.image.width);
+    put_number(text, image.rows());
+    put_number(text, image.image.settings.resolution.number());
+    put_box(text, StrokeSummary::of_one(&image.frame));
     text.put(b"\n");
 }
 

@@ -29,7 +29,7 @@ pub(crate) const NO_STROKES: StrokeSummary = StrokeSummary {
 
 impl StrokeSummary {
     // Of one stroke.
-    fn of_one(stroke: &Stroke) -> StrokeSummary
+    pub(crate) fn of_one(stroke: &Stroke) -> StrokeSummary
         ensures { result ≡ summary_of (stroke.now ∷ []) }
     {
         StrokeSummary {

@@ -36,11 +36,15 @@ has_all_sheets (Full sheet encoding) = nat_eq sheet 0
 abbrev pub is_whole : Line → Bool → Outcome → Bool
 is_whole line is_sheet outcome = nat_lt outcome.sheets 2 || (not is_sheet && has_all_sheets (reading_for line))
 
--- there are more notes than lines and areas, and this is to be said
+-- how many lines, areas and images there are
+abbrev pub drawn_count : Outcome → ℕ
+drawn_count outcome = outcome.done.strokes + outcome.done.areas + outcome.done.images
+
+-- there are more notes than lines, areas and images, and this is to be said
 abbrev pub is_hardly_understood : Line → Bool → Outcome → Bool
 is_hardly_understood line is_sheet outcome =
     (line.remarks && not line.verbose)
-    && (is_whole line is_sheet outcome && (not (is_blank outcome) && nat_lt (outcome.done.strokes + outcome.done.areas) outcome.done.notes))
+    && (is_whole line is_sheet outcome && (not (is_blank outcome) && nat_lt (drawn_count outcome) outcome.done.notes))
 
 abbrev pub is_report : Task → Bool
 is_report (Report page) = true

@@ -58,7 +58,7 @@ fn tell_placement<V: Voice>(voice: &mut V, about: About<'_>, placement: Placemen
     }
 }
 
-// Says that there are more notes than lines and areas, of which there is one at least.
+// Says that there are more notes than lines, areas and images, of which there is one at least.
 fn tell_notes<V: Voice>(
     voice: &mut V,
     line: &Line<'_, '_>,
@@ -72,7 +72,7 @@ fn tell_notes<V: Voice>(
         let message = ManyNotes {
             about,
             notes: outcome.done.notes,
-            lines: Lines(outcome.done.strokes.saturating_add(outcome.done.areas)),
+            lines: Lines(drawn_count(outcome)),
             report: report_of(line),
         };
         voice.remark(&message);
@@ -150,15 +150,27 @@ fn is_blank(outcome: &Outcome) -> bool
     is_empty(outcome.placement) || outcome.is_off_page
 }
 
-// There are more notes than lines and areas, of pens that are not drawn, too. The notes are those of the whole plot, so this is not asked
-// of one sheet of several, and draw need not say it if it is to be quiet or says these numbers anyway.
+// How many lines, areas and images there are.
+fn drawn_count(outcome: &Outcome) -> usize {
+    let done = &outcome.done;
+    done.strokes
+        .saturating_add(done.areas)
+        .saturating_add(done.images)
+}
+
+// There are more notes than lines, areas and images, of pens that are not drawn, too. The notes are those of the whole plot, so
+// this is not asked of one sheet of several, and draw need not say it if it is to be quiet or says these numbers anyway.
 fn is_hardly_understood(line: &Line<'_, '_>, is_sheet: bool, outcome: &Outcome) -> bool
     ensures { result ≡ is_hardly_understood line.now is_sheet outcome.now }
 {
     let is_whole = outcome.sheets < 2 || !is_sheet && has_all_sheets(reading_for(line));
     let is_said = line.remarks && !line.verbose;
-    let others = outcome.done.notes.saturating_sub(outcome.done.strokes);
-    is_said && is_whole && !is_blank(outcome) && others > outcome.done.areas
+    let done = &outcome.done;
+    let others = done
+        .notes
+        .saturating_sub(done.strokes)
+        .saturating_sub(done.areas);
+    is_said && is_whole && !is_blank(outcome) && others > done.images
 }
 
 // All sheets are drawn.

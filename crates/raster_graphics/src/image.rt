@@ -1,5 +1,5 @@
 //! Images that are done.
-ghost use Rattle.std.specs.Prelude.{◌≡◌, List, [], ◌∷◌, ◌++◌, OnOk};
+ghost use Rattle.std.specs.Prelude.{◌≡◌, List, [], ◌∷◌, ◌++◌, MatchOption, OnOk};
 ghost use Rattle.raster_graphics.specs.declared.image.Image.{Image};
 
 use crate::numbers::Numbers;
@@ -51,6 +51,17 @@ impl Images {
         ensures { result.now ≡ self.now }
     {
         self.images.as_slice()
+    }
+
+    /// Takes the first one out; none if there is none.
+    pub fn take_first(&mut self) -> Option<Image>
+        ensures { MatchOption result ((self.old ≡ []) × (self.new ≡ [])) (λ image. self.old ≡ image ∷ self.new) }
+    {
+        if self.images.is_empty() {
+            None
+        } else {
+            Some(self.images.remove(0))
+        }
     }
 
     /// One more.

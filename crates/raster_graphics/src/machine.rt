@@ -1,5 +1,5 @@
 //! The machine: what is set, the image for which rows come, and the images that are done.
-ghost use Rattle.std.specs.Prelude.{◌≡◌, ◌≢◌, OnOk, IfErr, Ok, Err};
+ghost use Rattle.std.specs.Prelude.{◌≡◌, ◌≢◌, MatchOption, OnOk, IfErr, Ok, Err, [], ◌∷◌};
 ghost use Rattle.raster_graphics.specs.Laws.{IsInOrder};
 ghost use Rattle.raster_graphics.specs.Machines.{start, ended, closed};
 ghost use Rattle.raster_graphics.specs.declared.fault.Fault.TheVariants.{Memory};
@@ -80,6 +80,15 @@ impl Machine {
         ensures { result.now ≡ self.now.images }
     {
         self.images.as_slice()
+    }
+
+    /// Takes the first image that is done out of the machine; none if there is none.
+    pub fn take_done(&mut self) -> Option<Image>
+        ensures taken { MatchOption result ((self.old.images ≡ []) × (self.new.images ≡ []))
+            (λ image. self.old.images ≡ image ∷ self.new.images) }
+        ensures left { self.new ≡ record self.old { images = self.new.images } }
+    {
+        self.images.take_first()
     }
 
     /// Ends the image, if one is open: it is done if it has a row, and the place is where its next row would begin.

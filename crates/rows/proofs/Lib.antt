@@ -1,4 +1,5 @@
 mod Examples
+mod ImageExamples
 mod Smoothed
 pub mod Alone
 pub mod Pictures
@@ -20,3 +21,7 @@ pub mod Watched
 mod PixelRows
 mod KnownNumbers
 mod PixelLayouts
+mod ImageCells
+mod ImagePictures
+mod ImageRows
+mod ImageSmoothed

@@ -31,7 +31,7 @@ use Rattle.rows.specs.Progress.{IsSmoothing, SmoothPainting, painting_shapes, ro
 use Rattle.rows.proofs.Smoothed.{finer_row, finer_rows}
 
 -- a cell of some rows, or 0 past the last of them
-cell_of_rows : (shows : ℕ → List ℕ) (first n rows r column : ℕ) → (r < n → first + r < rows) → (n ≤ r → rows ≤ first + r)
+pub cell_of_rows : (shows : ℕ → List ℕ) (first n rows r column : ℕ) → (r < n → first + r < rows) → (n ≤ r → rows ≤ first + r)
     → get_or (get_or (map shows (range_with_len first n)) r []) column 0 ≡ cond (nat_lt (first + r) rows) (get_or (shows (first + r)) column 0) 0
 cell_of_rows shows first n rows r column within after = elim (cases_lt r n) as (λ _. get_or (get_or (map shows (range_with_len first n)) r []) column 0 ≡ cond (nat_lt (first + r) rows) (get_or (shows (first + r)) column 0) 0) [
   | inl lt ↦ (let there : nat_lt (first + r) rows ≡ true = (let left = within lt in grind (arith, nat_tests)) in
@@ -51,7 +51,7 @@ band_colour reaches p r column lt within after =
     (λ inside. omega (arith, inside, within)) (λ past. after (omega (arith, past, lt))))
 
 -- smoothed pixels of colours that are the same are the same
-smoothed_same : (n : ℕ) (f g : Colours) (row other column : ℕ) → ((j c : ℕ) → j < n → f (n * row + j) c ≡ g (n * other + j) c) → smoothed n f row column ≡ smoothed n g other column
+pub smoothed_same : (n : ℕ) (f g : Colours) (row other column : ℕ) → ((j c : ℕ) → j < n → f (n * row + j) c ≡ g (n * other + j) c) → smoothed n f row column ≡ smoothed n g other column
 smoothed_same n f g row other column same =
     let one : (c : ℕ) → mean_channel n f row column c ≡ mean_channel n g other column c = λ c.
     ap (mean n) (total_same (λ r. total (channel f c r) (n * column) n) (λ r. total (channel g c r) (n * column) n) (n * row) (n * other) n (λ j lt.

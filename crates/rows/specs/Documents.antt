@@ -1,7 +1,6 @@
--- PNGs of shapes: what reading one gives, and what writing one answers.
+-- PNGs of shapes and images: what reading one gives, and what writing one answers.
 use Rattle.std.specs.Prelude.{◌≡◌, ℕ, ◌+◌, ◌*◌, ◌/◌, Bool, not, ◌||◌, if◌then◌else◌, List, [], Option, Some, Result, Ok, Err, ⊤}
 use Rattle.plot_page.specs.Segments.{Segment}
-use Rattle.areas.specs.Shapes.{ShapeList}
 use Rattle.plot_page.specs.declared.page.Page.{Page}
 use Rattle.plot_page.specs.declared.dots.Dots.{Dots}
 use Rattle.plot_page.specs.Resolutions.{columns_of, rows_of}
@@ -10,7 +9,9 @@ use Rattle.picture_out.specs.declared.form.Form.TheVariants.{Ppm}
 use Rattle.png.specs.Samples.{Picture}
 use Rattle.png.specs.Readings.{read_png}
 use Rattle.devices.specs.Sinks.{SinkState}
-use Rattle.rows.specs.Pictures.{Reach, is_fine, is_smoothed, rows_bytes, shown_row}
+use Rattle.rows.specs.Pictures.{Reach, is_fine, is_smoothed, rows_bytes}
+use Rattle.rows.specs.Contents.{ContentList}
+use Rattle.rows.specs.ImagePictures.{shown_row_with}
 use Rattle.rows.specs.Boxes.{boxes_from, finer_boxes}
 use Rattle.rows.specs.declared.fault.PictureFault.{PictureFault}
 use Rattle.rows.specs.declared.fault.PictureFault.TheVariants.{Memory, Unfinished}
@@ -29,13 +30,13 @@ picture_with page dots colours = record {
 }
 
 -- the colours of each row of pixels: the bytes of a PPM's row
-abbrev pub colours_row : PngJob → Reach → ShapeList → ℕ → List ℕ
-colours_row job reaches shapes row =
-    shown_row job.smoothing.times Ppm reaches job.pens shapes job.page job.dots row
+abbrev pub colours_row : PngJob → Reach → ContentList → ℕ → List ℕ
+colours_row job reaches contents row =
+    shown_row_with contents.images job.smoothing.times Ppm reaches job.pens contents.shapes job.page job.dots row
 
--- the picture of a job and shapes
-abbrev pub picture_shown : PngJob → Reach → ShapeList → Picture
-picture_shown job reaches shapes = picture_with job.page job.dots (colours_row job reaches shapes)
+-- the picture of a job, of shapes and images
+abbrev pub picture_shown : PngJob → Reach → ContentList → Picture
+picture_shown job reaches contents = picture_with job.page job.dots (colours_row job reaches contents)
 
 -- the job's picture can be smoothed; if not, nothing is read
 abbrev pub is_png_possible : PngJob → Bool

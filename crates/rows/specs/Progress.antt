@@ -1,6 +1,6 @@
 -- How far the writing of rows and of a picture came, as contracts of private functions say it.
 use Rattle.std.specs.Prelude.{◌≡◌, ℕ, ◌+◌, ◌-◌, ◌*◌, ◌<◌, ◌≤◌, map, List, [], ◌∷◌, ◌++◌, length, take, get_or, nat_eq}
-use Rattle.std.specs.Prelude.{if◌then◌else◌, min, nat_lt, Option, Result, Ok, Err, Some, None, ⊤}
+use Rattle.std.specs.Prelude.{if◌then◌else◌, min, Option, Result, Ok, Err, Some, None, ⊤}
 use Rattle.std.specs.List.{range_with_len}
 use Rattle.std.specs.Io.KnownBytes.{Appends}
 use Rattle.plot_page.specs.declared.dots.TheConstants.{MOST_PIXELS_A_SIDE}
@@ -10,14 +10,20 @@ use Rattle.picture_out.specs.declared.inks.Ink.{Ink}
 use Rattle.picture_out.specs.Forms.{foot_bytes, row_bytes}
 use Rattle.png.specs.declared.header.Depth.{Depth}
 use Rattle.png.specs.declared.header.Layout.{Layout}
+use Rattle.png.specs.declared.header.Layout.TheVariants.{Rgb}
+use Rattle.plot_page.specs.declared.page.Page.{Page}
 use Rattle.png.specs.Headers.{HasColours}
 use Rattle.plot_page.specs.declared.dots.Dots.{Dots}
 use Rattle.devices.specs.Sinks.{SinkState}
 use Rattle.areas.specs.Shapes.{ShapeList}
+use Rattle.page_images.specs.PageImages.{ImageShape}
 use Rattle.plot_page.specs.Resolutions.{rows_of}
 use Rattle.stroke_raster.specs.Painting.{Painting}
 use Rattle.picture_job.specs.declared.job.Job.{Job}
-use Rattle.rows.specs.Pictures.{Reach, colours_at, end_of, foot_if, head_of, job_fault, picture_of, row_of_list, rows_bytes, shapes_row}
+use Rattle.rows.specs.Pictures.{Reach, colours_at, end_of, foot_if, head_of, job_fault, picture_of, row_of_list, rows_bytes}
+use Rattle.rows.specs.Contents.{ContentList}
+use Rattle.rows.specs.ImageCells.{with_images}
+use Rattle.rows.specs.ImagePictures.{contents_row, image_colours, image_row}
 use Rattle.rows.specs.Boxes.{boxes_between}
 use Rattle.rows.specs.PixelRows.{layout_bytes}
 use Rattle.rows.specs.declared.fault.PictureFault.{PictureFault}
@@ -118,29 +124,41 @@ painting_row form p reaches row = row_of_list form reaches p.pens (painting_shap
 abbrev pub tests_left : Painting → ℕ
 tests_left p = boxes_between p.pens p.strokes p.page p.dots p.next p.end
 
--- the job can be done on its page, and a strip of at most so many rows of a picture of its shapes was written, or the sink
+-- the job can be done on its page, and a strip of at most so many rows of a picture of its contents was written, or the sink
 -- failed once
-abbrev pub WritesJob : ℕ → Option ℕ → Job → Reach → ShapeList → SinkState → SinkState → Result ℕ Broken → Type 0
-WritesJob n most job reaches shapes sink sink' answer =
+abbrev pub WritesJob : ℕ → Option ℕ → Job → Reach → ContentList → SinkState → SinkState → Result ℕ Broken → Type 0
+WritesJob n most job reaches contents sink sink' answer =
     let rows = rows_of job.page job.dots in
     let end = end_of most job.first_row rows in
     (job_fault job ≡ None)
-    × WritesPicture (head_of job.form job.page job.dots) (shapes_row n job reaches shapes)
+    × WritesPicture (head_of job.form job.page job.dots) (contents_row n job reaches contents)
     (foot_if (foot_bytes job.form) rows end) end job.first_row sink sink' answer
 
--- a job's shapes were painted and at most so many rows written, the sink failed once, or the job cannot be done on its page
-abbrev pub HasPainted : ℕ → Option ℕ → Job → Reach → ShapeList → SinkState → SinkState → Result ℕ PictureFault → Type 0
-HasPainted n most job reaches shapes sink sink' (Ok bytes) = WritesJob n most job reaches shapes sink sink' (Ok bytes)
-HasPainted n most job reaches shapes sink sink' (Err (Write row whole bytes)) =
-    WritesJob n most job reaches shapes sink sink' (Err (record { row = row; whole = whole; bytes = bytes }))
-HasPainted n most job reaches shapes sink sink' (Err (Paint fault)) = job_fault job ≡ Some fault
-HasPainted n most job reaches shapes sink sink' (Err Memory) = ⊤
-HasPainted n most job reaches shapes sink sink' (Err _) = ⊥
+-- a job's contents were painted and at most so many rows written, the sink failed once, or the job cannot be done on its page
+abbrev pub HasPainted : ℕ → Option ℕ → Job → Reach → ContentList → SinkState → SinkState → Result ℕ PictureFault → Type 0
+HasPainted n most job reaches contents sink sink' (Ok bytes) = WritesJob n most job reaches contents sink sink' (Ok bytes)
+HasPainted n most job reaches contents sink sink' (Err (Write row whole bytes)) =
+    WritesJob n most job reaches contents sink sink' (Err (record { row = row; whole = whole; bytes = bytes }))
+HasPainted n most job reaches contents sink sink' (Err (Paint fault)) = job_fault job ≡ Some fault
+HasPainted n most job reaches contents sink sink' (Err Memory) = ⊤
+HasPainted n most job reaches contents sink sink' (Err _) = ⊥
 
 -- what is painted as cells, and the form in which its rows are written
 pub record CellPainting : Type 0 where
   pub painting : Painting
   pub form : Form
+
+-- what is painted as cells, the images over it, and the form in which its rows are written
+pub record ImagePainting : Type 0 where
+  pub painting : Painting
+  pub images : List ImageShape
+  pub form : Form
+
+-- the bytes of each row
+abbrev pub image_painting_row : ImagePainting → Reach → ℕ → List ℕ
+image_painting_row b reaches row =
+    let p = b.painting in
+    image_row b.form reaches p.pens (painting_shapes p) b.images p.page p.dots row
 
 -- what is painted as cells, how many bits a number takes, and the number of each stroke
 pub record NumberPainting : Type 0 where
@@ -169,6 +187,26 @@ row_pixels b reaches row =
 
 abbrev pub smoothed_text : SmoothPainting → Reach → ℕ → List ℕ
 smoothed_text b reaches row = layout_bytes b.layout (row_pixels b reaches row)
+
+-- the same with the images over the finer picture
+pub record SmoothImagePainting : Type 0 where
+  pub smooth : SmoothPainting
+  pub images : List ImageShape
+
+-- the rows of a band, of which the first has this number, with images
+abbrev pub band_with_images : List ImageShape → Page → Dots → ℕ → List (List ℕ) → List (List ℕ)
+band_with_images images page dots first rows =
+    map (λ r. with_images images page dots (first + r) (get_or rows r [])) (range_with_len 0 (length rows))
+
+-- the pixels of each row, and its bytes
+abbrev pub image_row_pixels : SmoothImagePainting → Reach → ℕ → List (List ℕ)
+image_row_pixels b reaches row =
+    let s = b.smooth in
+    let p = s.painting in
+    map (smoothed s.times (image_colours reaches p.pens (painting_shapes p) b.images p.page p.dots) row) (range_with_len 0 s.columns)
+
+abbrev pub smoothed_image_text : SmoothImagePainting → Reach → ℕ → List ℕ
+smoothed_image_text b reaches row = layout_bytes Rgb (image_row_pixels b reaches row)
 
 -- each row is made of finer rows, of which the next are painted next
 pub record IsSmoothing (p : Painting) (times rows at height : ℕ) : Type 0 where

@@ -1,4 +1,5 @@
-//! The rows of a picture of strokes: painted band by band, and written in a form or as a PNG. Nothing here knows of plots.
+//! The rows of a picture of strokes and images: painted band by band, and written in a form or as a PNG. Nothing here knows of
+//! plots.
 #![tactic(auto)]
 
 mod bands;
@@ -6,9 +7,19 @@ mod bit_bands;
 mod bit_numbers;
 mod buffer;
 mod cell_bands;
+mod cell_row;
+mod contents;
 mod encoding;
 mod even_rows;
 mod fault;
+mod image_bands;
+mod image_inks;
+mod image_painting;
+mod image_png;
+mod image_row;
+mod image_smooth_bands;
+mod image_smoother;
+mod inked;
 mod known;
 mod number_bands;
 mod painting;
@@ -28,7 +39,9 @@ mod watcher;
 mod writing;
 
 pub use buffer::buffer_of;
+pub use contents::Contents;
 pub use fault::PictureFault;
+pub use page_images::{PageImage, PageImages};
 pub use painting::paint;
 pub use png_picture::paint_png;
 pub use possible::{has_any_resolution, is_png_possible, is_possible};

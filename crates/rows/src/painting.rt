@@ -1,17 +1,21 @@
-//! Painting a job's shapes, and writing its picture.
+//! Painting what a job's picture shows, and writing it.
 ghost use Rattle.std.specs.Prelude.{◌≡◌, ℕ, ◌+◌, ◌-◌, ◌^◌, ◌<◌, ◌≤◌, length, IfErr, false, true};
 ghost use Rattle.plot_page.specs.declared.stroke.TheConstants.{MOST_STROKES};
 ghost use Rattle.plot_page.specs.Resolutions.{rows_of};
 ghost use Rattle.areas.specs.Views.{shapes_in};
 ghost use Rattle.rows.specs.Boxes.{strip_boxes};
-ghost use Rattle.rows.specs.Pictures.{end_of, is_possible, shapes_row};
+ghost use Rattle.rows.specs.Contents.{ContentList, contents_in, plain};
+ghost use Rattle.rows.specs.ImagePictures.{contents_row};
+ghost use Rattle.rows.specs.Pictures.{end_of, is_possible};
 ghost use Rattle.rows.specs.Faults.{is_write};
 ghost use Rattle.rows.specs.Progress.{HasPainted};
 ghost use Rattle.rows.specs.Watching.{IsTold};
 
 use crate::bands::Bands;
 use crate::cell_bands::CellBands;
+use crate::contents::Contents;
 use crate::fault::PictureFault;
+use crate::image_painting::paint_with_images;
 use crate::pcl_bands::PclBands;
 use crate::possible::is_smoothed;
 use crate::scene::Scene;
@@ -27,13 +31,39 @@ use png::Layout;
 use std::alloc::Global;
 use stroke_raster::{Gauge, Inker};
 
-/// Paints a job's shapes and writes its picture, or at most so many rows of it, and answers how many bytes that are. PBM and
-/// PCL show only which pixels have ink, so their rows are painted as bits; those of the other forms as cells. Rows that are not
-/// written are not painted. The watcher is told after each band how many rows are written.
+/// Paints a job's shapes and images and writes its picture, or at most so many rows of it, and answers how many bytes that are.
+/// Rows that are not written are not painted. The watcher is told after each band how many rows are written.
 ///
 /// Errors, in this order: `Paint` for a band height or a first row out of range; `Write` if the sink
 /// fails. `Memory` comes when memory is refused.
 pub fn paint<G: Gauge, K: Sink, W: Watcher>(
+    alloc: Global,
+    job: &Job,
+    rows: RowChoice,
+    contents: Contents<'_>,
+    gauge: &mut G,
+    sink: &mut K,
+    watcher: &mut W,
+) -> Result<u64, PictureFault>
+    requires possible { is_possible rows.smoothing.times job.now ≡ true }
+    requires few { length contents.shapes.strokes.now ≤ MOST_STROKES }
+    requires sinking { (K.state sink.old).faults < 2 ^ 64 - 1 }
+    ensures paints { HasPainted rows.smoothing.times rows.most_rows job.now (G.reaches gauge.old) (contents_in contents.entry) (K.state sink.old) (K.state sink.new) result }
+    ensures tests { G.count gauge.new ≤ G.count gauge.old + strip_boxes rows.smoothing.times rows.most_rows job.now contents.entry.shapes.strokes.now }
+    ensures same { G.reaches gauge.new ≡ G.reaches gauge.old }
+    ensures told { IsTold is_write W.hears (end_of rows.most_rows job.now.first_row (rows_of job.now.page job.now.dots) - job.now.first_row) watcher.old watcher.new result }
+    ensures untouched { IfErr result (λ fault. is_write fault ≡ false → sink.new ≡ sink.old) }
+{
+    if contents.images.list.is_empty() {
+        paint_shapes(alloc, job, rows, contents.shapes, gauge, sink, watcher)
+    } else {
+        paint_with_images(alloc, job, rows, contents, gauge, sink, watcher)
+    }
+}
+
+// The same of shapes without images. PBM and PCL show only which pixels have ink, so their rows are painted as bits; those of
+// the other forms as cells.
+fn paint_shapes<G: Gauge, K: Sink, W: Watcher>(
     alloc: Global,
     job: &Job,
     rows: RowChoice,
@@ -45,7 +75,7 @@ pub fn paint<G: Gauge, K: Sink, W: Watcher>(
     requires possible { is_possible rows.smoothing.times job.now ≡ true }
     requires few { length shapes.strokes.now ≤ MOST_STROKES }
     requires sinking { (K.state sink.old).faults < 2 ^ 64 - 1 }
-    ensures paints { HasPainted rows.smoothing.times rows.most_rows job.now (G.reaches gauge.old) (shapes_in shapes.entry) (K.state sink.old) (K.state sink.new) result }
+    ensures paints { HasPainted rows.smoothing.times rows.most_rows job.now (G.reaches gauge.old) (plain (shapes_in shapes.entry)) (K.state sink.old) (K.state sink.new) result }
     ensures tests { G.count gauge.new ≤ G.count gauge.old + strip_boxes rows.smoothing.times rows.most_rows job.now shapes.entry.strokes.now }
     ensures same { G.reaches gauge.new ≡ G.reaches gauge.old }
     ensures told { IsTold is_write W.hears (end_of rows.most_rows job.now.first_row (rows_of job.now.page job.now.dots) - job.now.first_row) watcher.old watcher.new result }
@@ -87,9 +117,9 @@ pub fn paint<G: Gauge, K: Sink, W: Watcher>(
     }
 }
 
-// The same of a scene of the job, by these bands, which are asked for so.
+/// The same of a scene of the job, by these bands, which are asked for so.
 #[tactic(auto, using(crate::proofs::Watched::not_told))]
-fn paint_by<'a, B: Bands<'a> + Drop, G: Gauge, K: Sink, W: Watcher>(
+pub(crate) fn paint_by<'a, B: Bands<'a> + Drop, G: Gauge, K: Sink, W: Watcher>(
     alloc: Global,
     job: &Job,
     most_rows: Option<u32>,
@@ -103,9 +133,9 @@ fn paint_by<'a, B: Bands<'a> + Drop, G: Gauge, K: Sink, W: Watcher>(
     requires dots { scene.dots ≡ job.now.dots }
     requires sinking { (K.state sink.old).faults < 2 ^ 64 - 1 }
     requires ask { B.can_begin ask scene }
-    ensures paints { (n : ℕ) → B.asked_text ask scene.entry (G.reaches gauge.old)
-        ≡ shapes_row n job.now (G.reaches gauge.old) (shapes_in scene.entry.shapes) →
-        HasPainted n most_rows job.now (G.reaches gauge.old) (shapes_in scene.entry.shapes) (K.state sink.old) (K.state sink.new) result }
+    ensures paints { (n : ℕ) (contents : ContentList) → B.asked_text ask scene.entry (G.reaches gauge.old)
+        ≡ contents_row n job.now (G.reaches gauge.old) contents →
+        HasPainted n most_rows job.now (G.reaches gauge.old) contents (K.state sink.old) (K.state sink.new) result }
     ensures tests { G.count gauge.new ≤ G.count gauge.old + B.asked_tests ask scene.entry job.now.first_row
         (end_of most_rows job.now.first_row (rows_of job.now.page job.now.dots)) }
     ensures same { G.reaches gauge.new ≡ G.reaches gauge.old }

@@ -1,10 +1,11 @@
-//! Painting a job's strokes, and writing its picture as a PNG.
+//! Painting what a job's picture shows, and writing it as a PNG.
 ghost use Rattle.std.specs.Prelude.{◌≡◌, ◌+◌, ◌-◌, ◌^◌, ◌<◌, ◌≤◌, length, IfErr, false, true};
 ghost use Rattle.plot_page.specs.declared.stroke.TheConstants.{MOST_STROKES};
 ghost use Rattle.plot_page.specs.Resolutions.{rows_of};
 ghost use Rattle.png.specs.declared.header.Depth.{Depth};
 ghost use Rattle.png.specs.Headers.{bits_of_depth};
 ghost use Rattle.areas.specs.Views.{shapes_in};
+ghost use Rattle.rows.specs.Contents.{contents_in, plain};
 ghost use Rattle.rows.specs.Faults.{is_write};
 ghost use Rattle.rows.specs.Documents.{HasPaintedPng, is_png_possible, picture_shown, picture_with, png_boxes};
 ghost use Rattle.rows.specs.Layouts.{AreBits, plain_boxes, plain_row};
@@ -13,8 +14,10 @@ ghost use Rattle.rows.specs.Watching.{IsTold};
 
 use crate::bit_numbers::are_bits;
 use crate::cell_bands::CellBands;
+use crate::contents::Contents;
 use crate::encoding::{encode, header_of};
 use crate::fault::PictureFault;
+use crate::image_png::paint_png_with_images;
 use crate::number_bands::{NumberBands, Numbered};
 use crate::palette::{MOST_COLOURS, Palette, palette_of};
 use crate::possible::is_smoothed;
@@ -29,13 +32,39 @@ use png::{Depth, Layout};
 use std::alloc::Global;
 use stroke_raster::{Gauge, Inker};
 
-/// Paints a job's strokes and writes its picture as a PNG: with a palette if it has colours for all, else with the colour
-/// of each pixel; a smoothed one in shades of grey if its strokes have no other colours. The watcher is told after each band
-/// how many rows are written.
+/// Paints a job's shapes and images and writes its picture as a PNG: without images with a palette if it has colours for all,
+/// else with the colour of each pixel; a smoothed one in shades of grey if its strokes have no other colours. The watcher is
+/// told after each band how many rows are written.
 ///
 /// Errors: `Unfinished` if the sink fails; what it has taken is of no use. `Memory` comes when memory is refused, and then
 /// the sink has taken nothing.
 pub fn paint_png<G: Gauge, K: Sink, W: Watcher>(
+    alloc: Global,
+    job: &PngJob,
+    contents: Contents<'_>,
+    gauge: &mut G,
+    sink: K,
+    watcher: &mut W,
+) -> (K, Result<(), PictureFault>)
+    requires possible { is_png_possible job.now ≡ true }
+    requires few { length contents.shapes.strokes.now ≤ MOST_STROKES }
+    requires sinking { (K.state sink).faults < 2 ^ 64 - 1 }
+    ensures paints { HasPaintedPng (picture_shown job.now (G.reaches gauge.old) (contents_in contents.entry))
+        (K.state sink) (K.state result.0) result.1 }
+    ensures tests { G.count gauge.new ≤ G.count gauge.old + png_boxes job.now contents.entry.shapes.strokes.now }
+    ensures same { G.reaches gauge.new ≡ G.reaches gauge.old }
+    ensures told { IsTold is_write W.hears (rows_of job.now.page job.now.dots) watcher.old watcher.new result.1 }
+    ensures untouched { IfErr result.1 (λ fault. is_write fault ≡ false → result.0 ≡ sink) }
+{
+    if contents.images.list.is_empty() {
+        paint_shapes(alloc, job, contents.shapes, gauge, sink, watcher)
+    } else {
+        paint_png_with_images(alloc, job, contents, gauge, sink, watcher)
+    }
+}
+
+// The same of shapes without images.
+fn paint_shapes<G: Gauge, K: Sink, W: Watcher>(
     alloc: Global,
     job: &PngJob,
     shapes: Shapes<'_>,
@@ -46,7 +75,7 @@ pub fn paint_png<G: Gauge, K: Sink, W: Watcher>(
     requires possible { is_png_possible job.now ≡ true }
     requires few { length shapes.strokes.now ≤ MOST_STROKES }
     requires sinking { (K.state sink).faults < 2 ^ 64 - 1 }
-    ensures paints { HasPaintedPng (picture_shown job.now (G.reaches gauge.old) (shapes_in shapes.entry))
+    ensures paints { HasPaintedPng (picture_shown job.now (G.reaches gauge.old) (plain (shapes_in shapes.entry)))
         (K.state sink) (K.state result.0) result.1 }
     ensures tests { G.count gauge.new ≤ G.count gauge.old + png_boxes job.now shapes.entry.strokes.now }
     ensures same { G.reaches gauge.new ≡ G.reaches gauge.old }

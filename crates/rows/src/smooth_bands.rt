@@ -12,6 +12,7 @@ ghost use Rattle.png.specs.Headers.{HasColours};
 ghost use Rattle.areas.specs.Views.{shapes_in};
 ghost use Rattle.rows.specs.Boxes.{finer_between};
 ghost use Rattle.rows.specs.Inks.{inks_held};
+ghost use Rattle.rows.specs.ImageSmoothing.{IsMadeOf};
 ghost use Rattle.rows.specs.Pictures.{finer, smoothed_pixels};
 ghost use Rattle.rows.specs.PixelRows.{layout_bytes};
 ghost use Rattle.rows.specs.Progress.{CanSmooth, row_pixels, smoothed_text, tests_left, WritesRows};
@@ -159,6 +160,7 @@ impl<'a> SmoothBands<'a> {
         ensures first { (result ≡ Err PaintFault.Row) ↔ ((is_band_height band_rows ≡ true) × (rows_of scene.entry.page scene.entry.dots < first_row)) }
         ensures pixels { IfOk result (λ b. row_pixels b ≡ (λ reaches row. smoothed_pixels ask.entry.times reaches scene.entry.pens (shapes_in scene.entry.shapes) scene.entry.page scene.entry.dots row)) }
         ensures layout { IfOk result (λ b. b.layout ≡ ask.entry.layout) }
+        ensures made { IfOk result (λ b. IsMadeOf b ask.entry.times scene.entry) }
         ensures rows { IfOk result (λ b. b.rows ≡ rows_of scene.entry.page scene.entry.dots) }
         ensures next { IfOk result (λ b. b.next ≡ first_row) }
         ensures end { IfOk result (λ b. b.end ≡ end_row) }

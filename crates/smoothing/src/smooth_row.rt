@@ -1,16 +1,15 @@
 //! A row of smoothed pixels.
-ghost use Rattle.std.specs.Prelude.{◌≡◌, ℕ, ◌+◌, ◌*◌, ◌^◌, ◌<◌, ◌≤◌, All, IfOk, length, map, get_or, false, true};
+ghost use Rattle.std.specs.Prelude.{◌≡◌, ℕ, ◌+◌, ◌*◌, ◌^◌, ◌<◌, ◌≤◌, All, IfOk, [], length, map, get_or, false, true};
 ghost use Rattle.std.specs.List.{range_with_len};
-ghost use Rattle.stroke_raster.specs.Bands.{row_of_band, rows_of_band};
 ghost use Rattle.smoothing.specs.Cells.{colours_of_cells};
 ghost use Rattle.smoothing.specs.Smoothings.{smoothed};
 ghost use Rattle.smoothing.specs.Totals.{AreWhite, AtLeast, HaveCells, HaveRows};
 ghost use Rattle.smoothing.specs.declared.sums.Sums.{Sums};
 
+use crate::finer_rows::FinerRows;
 use crate::sums::{Sums, add_row, take_means};
 use picture_out::Inks;
 use std::alloc::{AllocError, Global};
-use stroke_raster::Band;
 
 /// The pixels of a row, each the mean of `times` by `times` pixels of a finer picture, and the sums that they are made by.
 #[derive(Drop)]
@@ -53,50 +52,50 @@ impl SmoothRow {
         self.pixels.as_slice()
     }
 
-    /// Makes the pixels from the rows of a band from the row `times * i` on, counted from 0 in the band. Rows past the
-    /// band's last, and columns past the last, are white.
-    pub fn smooth<I: Inks>(&mut self, band: &Band<'_>, i: u32, inks: &I)
-        requires inks { All (λ row. All (λ cell. cell ≤ length (I.inks inks.now)) row) (rows_of_band band.now) }
+    /// Makes the pixels from finer rows from the row `times * i` on, counted from 0. Rows past the last, and columns past the
+    /// last, are white.
+    pub fn smooth<R: FinerRows, I: Inks>(&mut self, rows: &R, i: u32, inks: &I)
+        requires inks { All (λ row. All (λ cell. cell ≤ length (I.inks inks.now)) row) (R.finer rows.now) }
         requires place { i ≤ 4096 }
         ensures pixels { pixels_of self.new ≡ map (smoothed (times_of self.old)
-            (colours_of_cells (I.inks inks.now) (rows_of_band band.now)) i) (range_with_len 0 (width_of self.old)) }
+            (colours_of_cells (I.inks inks.now) (R.finer rows.now)) i) (range_with_len 0 (width_of self.old)) }
         ensures times { times_of self.new ≡ times_of self.old }
         ensures width { width_of self.new ≡ width_of self.old }
     {
-        add_rows(self.times, band, i, inks, &mut self.sums);
+        add_rows(self.times, rows, i, inks, &mut self.sums);
         take_means(self.times, &mut self.sums, &mut self.pixels);
     }
 }
 
-// Puts the rows of a band from the row `times * i` on in the place of white ones, as far as there are any.
-fn add_rows<I: Inks>(times: u32, band: &Band<'_>, i: u32, inks: &I, sums: &mut [Sums])
-    requires inks { All (λ row. All (λ cell. cell ≤ length (I.inks inks.now)) row) (rows_of_band band.now) }
+// Puts finer rows from the row `times * i` on in the place of white ones, as far as there are any.
+fn add_rows<R: FinerRows, I: Inks>(times: u32, rows: &R, i: u32, inks: &I, sums: &mut [Sums])
+    requires inks { All (λ row. All (λ cell. cell ≤ length (I.inks inks.now)) row) (R.finer rows.now) }
     requires place { i ≤ 4096 }
     requires least { 1 ≤ times }
     requires most { times ≤ 8 }
     requires few { length sums.old < 2 ^ 32 }
     requires white { (k : ℕ) (d : Sums) → k < length sums.old → AreWhite times (get_or sums.old k d) }
     ensures size { length sums.new ≡ length sums.old }
-    ensures rows { HaveRows times (colours_of_cells (I.inks inks.now) (rows_of_band band.now)) i times sums.new }
+    ensures rows { HaveRows times (colours_of_cells (I.inks inks.now) (R.finer rows.now)) i times sums.new }
 {
     for k in 0..times {
-        add_band_row(band, times * i + k, times, inks, sums);
+        add_finer_row(rows, times * i + k, times, inks, sums);
     }
 }
 
 // The same of one row.
-fn add_band_row<I: Inks>(band: &Band<'_>, row: u32, times: u32, inks: &I, sums: &mut [Sums])
-    requires inks { All (λ row. All (λ cell. cell ≤ length (I.inks inks.now)) row) (rows_of_band band.now) }
+fn add_finer_row<R: FinerRows, I: Inks>(rows: &R, row: u32, times: u32, inks: &I, sums: &mut [Sums])
+    requires inks { All (λ row. All (λ cell. cell ≤ length (I.inks inks.now)) row) (R.finer rows.now) }
     requires least { 1 ≤ times }
     requires most { times ≤ 8 }
     requires few { length sums.old < 2 ^ 32 }
     requires enough { (k : ℕ) (d : Sums) → k < length sums.old → AtLeast (255 * times) (get_or sums.old k d) }
     ensures size { length sums.new ≡ length sums.old }
-    ensures cells { HaveCells (I.inks inks.now) (row_of_band band.now row) times sums.old sums.new }
+    ensures cells { HaveCells (I.inks inks.now) (get_or (R.finer rows.now) row []) times sums.old sums.new }
 {
-    if row < band.rows() {
-        let span = band.span(row);
-        let cells = band.row(row);
+    if row < rows.count() {
+        let span = rows.columns(row);
+        let cells = rows.cells(row);
         add_row(
             cells,
             span.low as usize,

@@ -11,8 +11,8 @@ pub fn is_drawn(pens: &PenSet, stroke: &Stroke) -> bool
     pens.has(stroke.pen) && has_place(stroke.window)
 }
 
-// Whether a window holds a place.
-fn has_place(window: Window) -> bool
+/// Whether a window holds a place.
+pub fn has_place(window: Window) -> bool
     ensures { result ≡ has_place window }
 {
     window.x0 <= window.x1 && window.y0 <= window.y1

@@ -10,7 +10,7 @@ mod sheets;
 mod shown;
 mod view;
 
-pub use drawn::is_drawn;
+pub use drawn::{has_place, is_drawn};
 pub use role::Role;
 pub use roles::Roles;
 pub use runs::{Link, MOST_IN_RUN, Runs};

@@ -5,10 +5,12 @@ pub mod ClipReads
 pub mod Counts
 pub mod DocumentReads
 pub mod EachPath
+pub mod ImageTexts
 pub mod PartLaws
 pub mod PartReads
 pub mod PathReads
 pub mod ReadLaw
+pub mod SheetTexts
 pub mod SheetTitles
 pub mod Texts
 pub mod TitleReads

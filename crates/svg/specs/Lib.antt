@@ -1,6 +1,9 @@
 -- What a reader must believe: the bytes of an SVG document, and what its paths and its titles show.
 pub mod Documents
 pub mod Sheets
+pub mod Sections
+pub mod Views
+pub mod Images
 pub mod Parts
 pub mod Titles
 pub mod Paths

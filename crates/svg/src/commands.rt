@@ -62,6 +62,14 @@ fn put_pair<K: Sink>(text: &mut Text<'_, K>, letter: &[u8; 1], place: Place)
     ensures puts { Puts K.state text.old text.new (letter.now ++ pair_text place) }
 {
     text.put(letter);
+    put_place(text, place);
+}
+
+// Puts a place.
+pub(crate) fn put_place<K: Sink>(text: &mut Text<'_, K>, place: Place)
+    requires sound { IsSound K.state text.old }
+    ensures puts { Puts K.state text.old text.new (pair_text place) }
+{
     text.put_number(place.x);
     text.put(b" ");
     text.put_number(place.y);

@@ -1,16 +1,18 @@
 //! The whole document.
 ghost use Rattle.std.specs.Prelude.{◌≡◌, ◌-◌, ◌^◌, ◌<◌, ◌≤◌, ◌++◌, length};
-ghost use Rattle.areas.specs.Views.{areas_in};
-ghost use Rattle.labels.specs.Sheets.{all_counted};
 ghost use Rattle.pieces.specs.Texts.{IsNew, IsSound, Puts, WritesText};
 ghost use Rattle.plot_page.specs.declared.stroke.TheConstants.{MOST_STROKES};
 ghost use Rattle.svg.specs.Clips.{clips_of, clips_text, collected};
-ghost use Rattle.svg.specs.Documents.{head_text, sheets_bytes, svg_bytes};
+ghost use Rattle.svg.specs.Documents.{head_text};
+ghost use Rattle.svg.specs.Sections.{sheets_document, shown_sheets, shown_text, svg_document};
+ghost use Rattle.svg.specs.Views.{contents};
 
 use crate::clip_paths::ClipPaths;
 use crate::clips::put_clips;
 use crate::head::put_head;
 use crate::parts::put_parts;
+use crate::pictured::put_pictured;
+use crate::sections::put_sections;
 use crate::sheets::put_sheets;
 use devices::{Sink, WriteFault};
 use pieces::Text;
@@ -29,6 +31,9 @@ use stroke_runs::SheetView;
 /// replaces control characters, and code points that XML does not have. A label of which no stroke is drawn is left out. A
 /// stroke of two labels belongs to the first one.
 ///
+/// An image is a group of `image` elements, each a PNG, among the paths of the strokes. Rows that were not sent are no part of
+/// it, and white shows nothing unless it is opaque. What lies outside of the image's window is not seen.
+///
 /// Returns how many bytes the document has. It asks for no memory.
 ///
 /// Errors: a `WriteFault` if and only if the sink fails; it has then taken the first `bytes` bytes. Both counts stop at
@@ -42,19 +47,20 @@ pub fn write_svg<K: Sink>(
     requires strokes { length view.now.strokes.now ≤ MOST_STROKES }
     requires clips { collected clips.now ≡ clips_of view.now.page.now view.now.pens.now view.now.strokes.now }
     ensures writes { WritesText (K.state sink.old) (K.state sink.new)
-        (svg_bytes view.now.page.now view.now.pens.now view.now.strokes.now (areas_in view.now.areas)
-        (all_counted view.now.before view.now.labels.now)) result }
+        (svg_document view.now.page.now view.now.pens.now (contents view.now)) result }
 {
     let mut text = Text::new(sink);
     put_document(&mut text, view, clips)
 }
 
 /// Writes all sheets of a plot as one document, one above another: each one is a group, `sheet-1`, `sheet-2` and so on.
-/// `ends` tells how many strokes there were when each sheet ended; the end of the strokes ends one, too, and a sheet without
-/// strokes does not count. A label is on the sheet of its first stroke. All else is as `write_svg` has it.
+/// `ends` tells how many strokes there were when each sheet ended, and `image_ends` how many images; the end of the plot ends
+/// one, too, and a sheet without strokes and images does not count. A label is on the sheet of its first stroke. All else is as
+/// `write_svg` has it.
 pub fn write_svg_sheets<K: Sink>(
     view: &SheetView<'_>,
     ends: &[usize],
+    image_ends: &[usize],
     clips: &ClipPaths,
     sink: &mut K,
 ) -> Result<u64, WriteFault>
@@ -62,11 +68,10 @@ pub fn write_svg_sheets<K: Sink>(
     requires strokes { length view.now.strokes.now ≤ MOST_STROKES }
     requires clips { collected clips.now ≡ clips_of view.now.page.now view.now.pens.now view.now.strokes.now }
     ensures writes { WritesText (K.state sink.old) (K.state sink.new)
-        (sheets_bytes view.now.page.now view.now.pens.now view.now.strokes.now (areas_in view.now.areas) ends.now
-        (all_counted view.now.before view.now.labels.now)) result }
+        (sheets_document view.now.page.now view.now.pens.now (contents view.now) ends.now image_ends.now) result }
 {
     let mut text = Text::new(sink);
-    put_all_sheets(&mut text, view, ends, clips)
+    put_all_sheets(&mut text, view, ends, image_ends, clips)
 }
 
 // Writes the document of strokes as a new text.
@@ -81,11 +86,10 @@ fn put_document<K: Sink>(
     requires clips { collected clips.now ≡ clips_of view.now.page.now view.now.pens.now view.now.strokes.now }
     ensures same { text.new.sink.ghost_name ≡ text.old.sink.ghost_name }
     ensures writes { WritesText (K.state text.old.sink.now) (K.state text.new.sink.now)
-        (svg_bytes view.now.page.now view.now.pens.now view.now.strokes.now (areas_in view.now.areas)
-        (all_counted view.now.before view.now.labels.now)) result }
+        (svg_document view.now.page.now view.now.pens.now (contents view.now)) result }
 {
     put_start(text, view.page, clips);
-    put_parts(text, view, 0);
+    put_shown(text, view);
     text.put(b"</g></svg>\n");
     text.finish()
 }
@@ -95,6 +99,7 @@ fn put_all_sheets<K: Sink>(
     text: &mut Text<'_, K>,
     view: &SheetView<'_>,
     ends: &[usize],
+    image_ends: &[usize],
     clips: &ClipPaths,
 ) -> Result<u64, WriteFault>
     requires sound { IsSound K.state text.old }
@@ -103,13 +108,45 @@ fn put_all_sheets<K: Sink>(
     requires clips { collected clips.now ≡ clips_of view.now.page.now view.now.pens.now view.now.strokes.now }
     ensures same { text.new.sink.ghost_name ≡ text.old.sink.ghost_name }
     ensures writes { WritesText (K.state text.old.sink.now) (K.state text.new.sink.now)
-        (sheets_bytes view.now.page.now view.now.pens.now view.now.strokes.now (areas_in view.now.areas) ends.now
-        (all_counted view.now.before view.now.labels.now)) result }
+        (sheets_document view.now.page.now view.now.pens.now (contents view.now) ends.now image_ends.now) result }
 {
     put_start(text, view.page, clips);
-    put_sheets(text, view, ends);
+    put_shown_sheets(text, view, ends, image_ends);
     text.put(b"</g></svg>\n");
     text.finish()
+}
+
+// Puts what is shown, with its images.
+fn put_shown<K: Sink>(text: &mut Text<'_, K>, view: &SheetView<'_>)
+    requires sound { IsSound K.state text.old }
+    requires strokes { length view.now.strokes.now ≤ MOST_STROKES }
+    ensures puts { Puts K.state text.old text.new (shown_text view.now.page.now view.now.pens.now (contents view.now)) }
+{
+    if view.images.list.is_empty() {
+        put_parts(text, view, 0);
+    } else {
+        let end = view.strokes.len();
+        put_sections(text, view, 0, end, view.labels, view.images.list);
+    }
+}
+
+// Puts all sheets, with their images.
+fn put_shown_sheets<K: Sink>(
+    text: &mut Text<'_, K>,
+    view: &SheetView<'_>,
+    ends: &[usize],
+    image_ends: &[usize],
+)
+    requires sound { IsSound K.state text.old }
+    requires strokes { length view.now.strokes.now ≤ MOST_STROKES }
+    ensures puts { Puts K.state text.old text.new
+        (shown_sheets view.now.page.now view.now.pens.now (contents view.now) ends.now image_ends.now) }
+{
+    if view.images.list.is_empty() {
+        put_sheets(text, view, ends);
+    } else {
+        put_pictured(text, view, ends, image_ends);
+    }
 }
 
 // Puts what comes before the paths.

@@ -11,6 +11,7 @@ ghost use Rattle.svg.specs.Parts.{AreBeside, AreInOrder, cut_labels, parts};
 ghost use Rattle.svg.specs.Paths.{clip_name, paths_text};
 ghost use Rattle.svg.specs.Readings.{parts_of_sheets, paths_in, read_parts, read_sheets, size_of, titles};
 ghost use Rattle.svg.specs.Reader.{read_svg, read_titles};
+ghost use Rattle.svg.specs.Sections.{sheets_document, svg_document, without_images};
 ghost use Rattle.svg.specs.Sheets.{EndsAfter, labelled_sheets};
 ghost use Rattle.svg.specs.Titles.{label_text, utf_8};
 
@@ -96,6 +97,32 @@ pub fn all_titles_are_labels(
 pub fn labels_in_order_are_whole(labels: &[Label])
     requires { AreInOrder 0 labels.now }
     ensures { cut_labels 0 labels.now ≡ labels.now }
+{}
+
+/// A document without images is made of its strokes, its areas and its labels alone: all laws of these bytes are its own.
+pub fn documents_without_images(
+    page: &Page,
+    pens: &PenSet,
+    strokes: &[Stroke],
+    areas: Areas<'_>,
+    labels: &[Label],
+)
+    ensures { svg_document page.now pens.now (without_images strokes.now (areas_in areas.entry) labels.now)
+        ≡ svg_bytes page.now pens.now strokes.now (areas_in areas.entry) labels.now }
+{}
+
+/// So is one of sheets.
+pub fn sheets_without_images(
+    page: &Page,
+    pens: &PenSet,
+    strokes: &[Stroke],
+    areas: Areas<'_>,
+    ends: &[usize],
+    image_ends: &[usize],
+    labels: &[Label],
+)
+    ensures { sheets_document page.now pens.now (without_images strokes.now (areas_in areas.entry) labels.now) ends.now image_ends.now
+        ≡ sheets_bytes page.now pens.now strokes.now (areas_in areas.entry) ends.now labels.now }
 {}
 
 /// A document without labels has no groups of labels.

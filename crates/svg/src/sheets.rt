@@ -13,7 +13,7 @@ use pieces::Text;
 use stroke_runs::{SheetView, between, count_to, end_of};
 
 // Puts the start of the group of a sheet.
-fn put_open<K: Sink>(text: &mut Text<'_, K>, number: u32)
+pub(crate) fn put_open<K: Sink>(text: &mut Text<'_, K>, number: u64)
     requires sound { IsSound K.state text.old }
     ensures puts { Puts K.state text.old text.new (open_text number) }
 {

@@ -4,6 +4,7 @@ use areas::Areas;
 use devices::{OverWrite, Sink};
 use dxf::{write_dxf, write_dxf_sheets};
 use labels::{Label, Line, Place};
+use page_images::PageImages;
 use plot_page::MOST_STROKES;
 use std::alloc::Global;
 use std::process::Abort;
@@ -46,6 +47,7 @@ fn is_document(
         areas: Areas::none(),
         labels,
         before: 0,
+        images: PageImages::none(),
     };
     let bytes = match ends {
         Some(ends) => write_dxf_sheets(&view, ends, &mut sink)?,

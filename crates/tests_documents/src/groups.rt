@@ -6,6 +6,7 @@ use crate::written::label_of;
 use areas::Areas;
 use devices::{OverWrite, Sink};
 use labels::Label;
+use page_images::PageImages;
 use plot_page::{MOST_STROKES, Stroke};
 use std::alloc::Global;
 use std::process::Abort;
@@ -48,9 +49,10 @@ fn document(
         areas: Areas::none(),
         labels,
         before,
+        images: PageImages::none(),
     };
     match ends {
-        Some(ends) => write_svg_sheets(&view, ends, &clips, &mut sink)?,
+        Some(ends) => write_svg_sheets(&view, ends, &[], &clips, &mut sink)?,
         None => write_svg(&view, &clips, &mut sink)?,
     };
     Ok(sink.into_inner())

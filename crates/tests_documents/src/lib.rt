@@ -30,6 +30,8 @@ mod svg_areas;
 #[cfg(test)]
 mod svg_documents;
 #[cfg(test)]
+mod svg_images;
+#[cfg(test)]
 mod svg_strokes;
 #[cfg(test)]
 mod titles;

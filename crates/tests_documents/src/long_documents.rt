@@ -6,6 +6,7 @@ use crate::svg_strokes::{page, strokes_of, three_pens};
 use areas::Areas;
 use devices::{Sink, SinkFault};
 use labels::Label;
+use page_images::PageImages;
 use plot_page::{Colour, MOST_STROKES, Stroke, Window};
 use std::alloc::Global;
 use std::process::Abort;
@@ -86,9 +87,10 @@ fn bytes_written(
         areas: Areas::none(),
         labels,
         before: 0,
+        images: PageImages::none(),
     };
     let written = match ends {
-        Some(ends) => write_svg_sheets(&view, ends, &clips, sink),
+        Some(ends) => write_svg_sheets(&view, ends, &[], &clips, sink),
         None => write_svg(&view, &clips, sink),
     };
     match written {

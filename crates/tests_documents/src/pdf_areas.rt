@@ -5,6 +5,7 @@ use crate::pdf_strokes::{BLACK, Look, write_view};
 use areas::{Area, Areas};
 use deflate::{PIECE, TextEncoder};
 use devices::{OverWrite, Sink};
+use page_images::PageImages;
 use plot_page::{Page, PenSet, Stroke};
 use polygons::Rule;
 use std::alloc::Global;
@@ -32,6 +33,7 @@ fn document_of(
         areas,
         labels: &[],
         before: 0,
+        images: PageImages::none(),
     };
     let mut sink = OverWrite::new(Vec::new(alloc));
     let mut encoder = TextEncoder::new(alloc)?;

@@ -4,6 +4,7 @@ use areas::Areas;
 use crc32::crc_of;
 use deflate::TextEncoder;
 use devices::{OverWrite, Sink};
+use page_images::PageImages;
 use plot_page::{Page, PenSet, Stroke};
 use std::alloc::Global;
 use std::process::Abort;
@@ -159,6 +160,7 @@ fn wide_page(rt: &impl Abort, alloc: Global, width: u32) -> Result<Vec<u8>, Fail
         areas: Areas::none(),
         labels: &[],
         before: 0,
+        images: PageImages::none(),
     };
     let mut sink = OverWrite::new(Vec::new(alloc));
     let mut encoder = TextEncoder::new(alloc)?;

@@ -4,6 +4,7 @@ use areas::Areas;
 use deflate::TextEncoder;
 use devices::Sink;
 use labels::Label;
+use page_images::PageImages;
 use pdf::{has_few_letters, room_for, write_pdf};
 use plot_page::{Colour, MOST_STROKES, Page, PenSet, Stroke, Window};
 use std::alloc::Global;
@@ -77,6 +78,7 @@ pub fn write_titled<K: Sink>(
         areas: Areas::none(),
         labels,
         before,
+        images: PageImages::none(),
     };
     write_view(alloc, encoder, title, &view, ends, sink)
 }

@@ -4,7 +4,7 @@ ghost use Rattle.std.specs.Prelude.{◌≡◌, ◌-◌, ◌^◌, ◌<◌, Some};
 use areas::{Area, Areas, Shapes};
 use devices::{OverWrite, Sink, SinkFault};
 use full_notes::FullNotes;
-use hpgl_plot::Notes;
+use hpgl_plot::{NoteKind, Notes};
 use plot_page::{Colour, Page, Stroke, Window};
 use plot_report::{ReportPage, write_full_report, write_report};
 use polygons::Rule;
@@ -126,17 +126,29 @@ fn write_full<K: Sink>(
     if shapes.strokes.len() > 255 || plot.len() > 10_000 {
         return Err("too much for a report".into());
     }
-    Ok(write_full_report(ReportPage::of(page), sheets, shapes, Notes::new(plot), sink)?)
+    Ok(write_full_report(
+        ReportPage::of(page),
+        sheets,
+        shapes,
+        &[],
+        Notes::new(plot),
+        sink,
+    )?)
 }
 
-// Writes the report without strokes on what is noted in a plot in the profile full.
-fn write_noted<K: Sink>(page: &Page, plot: &[u8], sink: &mut K) -> Result<u64, Fail>
+// Writes the report without strokes on what is noted in a plot in the profile full, on whose escapes this is noted.
+fn write_noted<K: Sink>(
+    page: &Page,
+    plot: &[u8],
+    told: &[Option<NoteKind>],
+    sink: &mut K,
+) -> Result<u64, Fail>
     requires { (K.state sink.old).faults < 2 ^ 64 - 1 }
 {
     if plot.len() > 10_000 {
         return Err("too much for a report".into());
     }
-    Ok(write_report(ReportPage::of(page), &[], FullNotes::new(plot), sink)?)
+    Ok(write_report(ReportPage::of(page), &[], FullNotes::new(plot, told), sink)?)
 }
 
 // Fails unless this is the report with these strokes, and with the notes on a plot.
@@ -572,7 +584,9 @@ fn failing_within_later_pieces(rt: HostRuntime) -> Result<(), Fail> {
 #[test]
 fn notes_on_escapes(rt: HostRuntime) -> Result<(), Fail> {
     let mut sink = OverWrite::new(Vec::new(rt.alloc()));
-    write_noted(&page()?, b"\x1b*t5R\x1b*c5P\x1b*b\x1b9ZZ;", &mut sink)?;
+    let told = [Some(NoteKind::Bad), Some(NoteKind::Skipped), None];
+    let plot = b"\x1b*t5R\x1b*c5P\x1b*b\x1b9ZZ;";
+    write_noted(&page()?, plot, &told, &mut sink)?;
     let want = "page 64 64 0 0\nstrokes 0\nnote 0 bad ESC\nnote 5 skipped ESC\nnote 10 stray 27\n\
                 note 11 stray 42\nnote 12 stray 98\nnote 15 skipped ZZ\n";
     assert_eq!(&rt; sink.into_inner().as_slice(), want.as_bytes());

@@ -3,6 +3,7 @@ use crate::svg_documents::{FOOT, HEAD};
 use crate::svg_strokes::{page, strokes_of, three_pens};
 use areas::Areas;
 use devices::{OverWrite, Sink};
+use page_images::PageImages;
 use plot_page::MOST_STROKES;
 use std::alloc::Global;
 use std::process::Abort;
@@ -34,8 +35,9 @@ fn has_groups(
         areas: Areas::none(),
         labels: &[],
         before: 0,
+        images: PageImages::none(),
     };
-    let bytes = write_svg_sheets(&view, ends, &clips, &mut sink)?;
+    let bytes = write_svg_sheets(&view, ends, &[], &clips, &mut sink)?;
     assert_eq!(rt; sink.failures(), 0);
     assert_eq!(rt;
         str::from_utf8(sink.into_inner().as_slice())?,

@@ -4,6 +4,7 @@ use crate::svg_documents::{FOOT, HEAD};
 use crate::svg_strokes::{page, strokes_of, three_pens};
 use areas::{Area, Areas};
 use devices::{OverWrite, Sink};
+use page_images::PageImages;
 use plot_page::MOST_STROKES;
 use polygons::Rule;
 use std::alloc::Global;
@@ -39,9 +40,10 @@ fn draws(
         areas,
         labels: &labels,
         before: 0,
+        images: PageImages::none(),
     };
     let bytes = match ends {
-        Some(ends) => write_svg_sheets(&view, ends, &clips, &mut sink)?,
+        Some(ends) => write_svg_sheets(&view, ends, &[], &clips, &mut sink)?,
         None => write_svg(&view, &clips, &mut sink)?,
     };
     assert_eq!(rt;

@@ -2,6 +2,7 @@
 use crate::svg_strokes::{page, strokes_of, three_pens};
 use areas::Areas;
 use devices::{OverWrite, Sink};
+use page_images::PageImages;
 use plot_page::{MOST_STROKES, Page};
 use std::alloc::Global;
 use std::process::Abort;
@@ -43,6 +44,7 @@ fn is_document(
         areas: Areas::none(),
         labels: &[],
         before: 0,
+        images: PageImages::none(),
     };
     let bytes = write_svg(&view, &clips, &mut sink)?;
     assert_eq!(rt; sink.failures(), 0);

@@ -90,7 +90,7 @@ fn a_report_on_areas(rt: HostRuntime) -> Result<(), Fail> {
     let report = reported(rt.alloc(), sheet_of(1), &page, SQUARE_AND_LINE)?;
     assert_eq!(rt;
         report.as_str(),
-        "Done { rows: 0, bytes: 130, strokes: 1, areas: 1, notes: 0 }\n\
+        "Done { rows: 0, bytes: 130, strokes: 1, areas: 1, images: 0, notes: 0 }\n\
 page 64 64 0 0\nsheets 1\nstrokes 1\nareas 1\npen 1 strokes 1 widest 224 box 0 448 1024 448\n\
 pen 2 areas 1 edges 4 box 256 256 768 768\n"
     );

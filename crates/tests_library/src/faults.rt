@@ -56,6 +56,7 @@ fn numbers_and_texts(rt: HostRuntime) -> Result<(), Fail> {
         bytes: 15,
         strokes: 2,
         areas: 0,
+        images: 0,
         notes: 0,
     };
     let outcome = Outcome {

@@ -39,7 +39,7 @@ fn a_band_of_a_pbm_is_one_write(rt: HostRuntime) -> Result<(), Fail> {
 
 // 65,536 bytes, what is left of them, and the end.
 const READ_IN_LARGE_PIECES: &str = "\
-Ok(Done { rows: 8, bytes: 15, strokes: 0, areas: 0, notes: 0 })
+Ok(Done { rows: 8, bytes: 15, strokes: 0, areas: 0, images: 0, notes: 0 })
 3 reads of at most 65536, 0 left, 0 failures, 1 ends
 2 writes, 15 bytes, 0 failures
 ";

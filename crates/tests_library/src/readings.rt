@@ -126,7 +126,7 @@ fn a_report_on_a_sheet(rt: HostRuntime) -> Result<(), Fail> {
     let report = reported(rt.alloc(), second, &eight_by_eight(Form::Pbm)?.page, SHEETS)?;
     assert_eq!(rt;
         report.as_str(),
-        "Done { rows: 0, bytes: 80, strokes: 1, areas: 0, notes: 0 }\n\
+        "Done { rows: 0, bytes: 80, strokes: 1, areas: 0, images: 0, notes: 0 }\n\
 page 64 64 0 0\nsheets 2\nstrokes 1\npen 1 strokes 1 widest 224 box 448 0 448 1024\n"
     );
     Ok(())

@@ -9,7 +9,7 @@ use std::process::Abort;
 use std::test::Fail;
 
 const DONE: &str = "\
-Ok(Done { rows: 8, bytes: 104, strokes: 1, areas: 0, notes: 0 })
+Ok(Done { rows: 8, bytes: 104, strokes: 1, areas: 0, images: 0, notes: 0 })
 2 reads of at most 65536, 0 left, 0 failures, 1 ends
 1 writes, 104 bytes, 0 failures
 ";
@@ -97,7 +97,7 @@ fn has_answer(rt: &impl Abort, alloc: Global, size: usize, wanted: &str) -> Resu
 #[test]
 fn the_longest_plot(rt: HostRuntime) -> Result<(), Fail> {
     let wanted = "\
-Ok(Done { rows: 8, bytes: 0, strokes: 0, areas: 0, notes: 0 })
+Ok(Done { rows: 8, bytes: 0, strokes: 0, areas: 0, images: 0, notes: 0 })
 1025 reads of at most 65536, 0 left, 0 failures, 1 ends
 0 writes, 0 bytes, 0 failures
 ";
@@ -128,7 +128,7 @@ Err(TooLong)
 #[test]
 fn the_pieces_of_a_plot(rt: HostRuntime) -> Result<(), Fail> {
     let wanted = "\
-Ok(Done { rows: 8, bytes: 0, strokes: 0, areas: 0, notes: 0 })
+Ok(Done { rows: 8, bytes: 0, strokes: 0, areas: 0, images: 0, notes: 0 })
 5 reads of at most 65536, 0 left, 0 failures, 1 ends
 0 writes, 0 bytes, 0 failures
 ";

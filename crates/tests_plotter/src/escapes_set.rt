@@ -21,8 +21,8 @@ PU5,5;PM0;PD9,5\x1b*t5RPD9,9;\x1bEPM2;EP;
 80,80 144,80;144,80 144,144;144,144 80,80;";
 
 const NOTED: &str = "\
-\x1b*c5P\x1b*t5R\x1b*b\x1b\x1b(s3B\x1b9\x1b*r9a1G
-0 skipped ESC;5 bad ESC;10 stray 27;11 stray 42;12 stray 98;13 stray 27;21 bad ESC;
+\x1b*c5P\x1b*t5R\x1b*b\x1b\x1b(s3B\x1b9\x1b*r9a1G\x1b*r1g9A
+0 skipped ESC;5 bad ESC;10 stray 27;11 stray 42;12 stray 98;13 stray 27;21 bad ESC;28 bad ESC;
 
 // numbers out of range
 \x1b*t9R\x1b*t10R\x1b*t2401R\x1b&u9D\x1b&u10D\x1b*r4A\x1b*r3A\x1b*r2U\x1b*r-4U\x1b*v2N\x1b*v1N
@@ -32,19 +32,19 @@ const NOTED: &str = "\
 \x1b*b5M\x1b*b9M\x1b*b1X\x1b!1A\x1b*r1K\x1b*rF\x1b(8U\x1b*o1M\x1b%0@
 0 skipped ESC;10 skipped ESC;15 skipped ESC;19 skipped ESC;
 
-// the first data of an image, also after IN
+// images, also after IN
 \x1b*r1A\x1b*b1V.\x1b*b1W.\x1b%0BIN;BP;\x1b*b1W.
-5 skipped ESC;
+none
 
 \x1b*b1w5M\x1b*b1W.
-0 skipped ESC;
+none
 
 \x1b*b1W.\x1b*b1w5M
-0 skipped ESC;
+none
 
-// data without an image
+// data that configure no image, and data of no image
 \x1b*v6W......\x1b&p2X..\x1b(s3W...
-none";
+0 bad ESC;";
 
 #[test]
 fn drawn_between_escapes(rt: HostRuntime) -> Result<(), Fail> {

@@ -31,7 +31,10 @@ pub enum Asked {
     Labels,
     // The areas: how many strokes there were before the edges and after them, and the rule; and each sheet's end.
     Areas,
-    // The greatest number of a sheet with a stroke.
+    // The images: their first corners, how many dots and rows they have, and how many strokes come before them; and how many
+    // strokes and images there are at each sheet's end.
+    Images,
+    // The greatest number of a sheet with a stroke or an image.
     Sheets,
     // What is noted.
     Notes,
@@ -134,6 +137,9 @@ fn drawn_told(alloc: Global, asked: Asked, drawn: &FullDrawn) -> Result<String, 
     if let Asked::Labels = asked {
         return labels_told(alloc, drawn.labels.as_slice());
     }
+    if let Asked::Images = asked {
+        return images_told(alloc, drawn);
+    }
     let mut list = String::new(alloc);
     if let Asked::Areas = asked {
         list.push_str(areas_told(alloc, drawn.areas.as_slice())?.as_str())?;
@@ -161,6 +167,28 @@ pub fn areas_told(alloc: Global, areas: &[Area]) -> Result<String, AllocError> {
             Rule::Winding => "winding",
         };
         write!(list, "{first}-{end} {rule};")?;
+    }
+    Ok(list)
+}
+
+// The images of a plot, and the ends of its sheets.
+fn images_told(alloc: Global, drawn: &FullDrawn) -> Result<String, AllocError> {
+    let mut list = String::new(alloc);
+    for image in drawn.images.as_slice() {
+        let (corner, width, rows) = (image.image.corner, image.image.width, image.rows());
+        let (x, y, before) = (corner.x, corner.y, image.before);
+        write!(list, "{x},{y} {width} by {rows} after {before};")?;
+    }
+    for (strokes, images) in drawn
+        .ends
+        .as_slice()
+        .iter()
+        .zip(drawn.image_ends.as_slice())
+    {
+        write!(list, " sheet to {strokes} and {images}")?;
+    }
+    if list.is_empty() {
+        list.push_str("none")?;
     }
     Ok(list)
 }

@@ -32,6 +32,8 @@ mod escapes_set;
 #[cfg(test)]
 mod full_cases;
 #[cfg(test)]
+mod images_set;
+#[cfg(test)]
 mod inks_set;
 #[cfg(test)]
 mod label_texts_set;

@@ -8,9 +8,10 @@ use std::test::Fail;
 
 // The notes on a plot, or "none". Drawing it counts as many.
 pub fn notes_on(alloc: Global, text: &[u8]) -> Result<String, Fail> {
+    let drawn = draw_full(alloc, text, &Page::new(1000, 1000, 0, 0)?)?;
     let mut list = String::new(alloc);
     let mut count: u64 = 0;
-    for note in FullNotes::new(text) {
+    for note in FullNotes::new(text, drawn.escape_notes.as_slice()) {
         let (at, [first, second]) = (note.at, note.code);
         let letters = letters_of(alloc, first, second)?;
         let line = match note.kind {
@@ -23,7 +24,6 @@ pub fn notes_on(alloc: Global, text: &[u8]) -> Result<String, Fail> {
         list.push_str(line.as_str())?;
         count = count.wrapping_add(1);
     }
-    let drawn = draw_full(alloc, text, &Page::new(1000, 1000, 0, 0)?)?;
     if drawn.notes as u64 != count {
         return Err("another count of notes".into());
     }

@@ -4,6 +4,8 @@ ghost use Rattle.raster_graphics.specs.Laws.{IsInOrder};
 
 use escapes::{Step, first_step};
 use image_colours::Colour;
+use page_images::PageImage;
+use plot_page::Page;
 use raster_graphics::{Answer, Fault, Image, Machine, Request};
 use std::alloc::Global;
 use std::process::Abort;
@@ -143,6 +145,22 @@ pub fn run(alloc: Global, machine: &mut Machine, text: &[u8], did: &mut String) 
         };
     }
     machine.close()
+}
+
+// The images of a machine on a page, in order, each after so many strokes.
+pub fn images_of(
+    alloc: Global,
+    machine: &mut Machine,
+    page: &Page,
+    before: u32,
+) -> Result<Vec<PageImage>, Fail>
+    requires { IsInOrder machine.old }
+{
+    let mut images = Vec::new(alloc);
+    'images: while let Some(image) = machine.take_done() {
+        images.push(PageImage::new(image, page, before))?;
+    }
+    Ok(images)
 }
 
 // A colour of a text, or none.

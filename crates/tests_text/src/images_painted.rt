@@ -1,11 +1,11 @@
 // Images over cells of pixels: of 8 columns and rows, each 8 plotter units. An independent reader of HP RTL made what is wanted.
-ghost use Rattle.std.specs.Prelude.{◌≤◌, nat_abs, All};
-ghost use Rattle.raster_graphics.specs.Laws.{RowsAscend};
+ghost use Rattle.std.specs.Prelude.{◌≡◌, ◌≤◌, nat_abs, true};
+ghost use Rattle.plot_page.specs.Strokes.{is_roll_window};
 
-use crate::images_made::{bytes_of, run};
-use image_raster::{PlacedImage, Turn, paint_images};
-use plot_page::{Dots, Page, Window};
-use raster_graphics::{Image, Machine, Place};
+use crate::images_made::{bytes_of, images_of, run};
+use image_raster::{PageImage, PageImages, Turn, paint_images};
+use plot_page::{Dots, Page, Stroke, Window};
+use raster_graphics::{Machine, Place};
 use std::alloc::Global;
 use std::process::Abort;
 use std::test::Fail;
@@ -43,18 +43,23 @@ const WHOLE: Window = Window {
 };
 
 // How an image of a page of 64 by 64 units is turned, and where its corner lies then.
-fn turned(word: &str, corner: Place) -> (Turn, Place) {
+fn turned(word: &str, corner: Place) -> (Turn, Place)
+    ensures x { nat_abs result.1.x ≤ 200000 }
+    ensures y { nat_abs result.1.y ≤ 200000 }
+{
+    let x = side(corner.x);
+    let y = side(corner.y);
     match word {
-        "90" => (Turn::Quarter, place(1024 - side(corner.y), side(corner.x))),
+        "90" => (Turn::Quarter, Place { x: 1024 - y, y: x }),
         "180" => (
             Turn::Half,
-            place(1024 - side(corner.x), 1024 - side(corner.y)),
+            Place {
+                x: 1024 - x,
+                y: 1024 - y,
+            },
         ),
-        "270" => (
-            Turn::ThreeQuarters,
-            place(side(corner.y), 1024 - side(corner.x)),
-        ),
-        _ => (Turn::None, corner),
+        "270" => (Turn::ThreeQuarters, Place { x: y, y: 1024 - x }),
+        _ => (Turn::None, Place { x, y }),
     }
 }
 
@@ -65,31 +70,23 @@ fn side(grains: i32) -> i32
     grains.clamp(-100_000, 100_000)
 }
 
-fn place(x: i32, y: i32) -> Place {
-    Place { x, y }
-}
-
-// Images on the page, turned, in a window.
-fn placed<'a>(
-    alloc: Global,
-    images: &'a [Image],
-    turn: &str,
-    window: Window,
-) -> Result<Vec<PlacedImage<'a>>, Fail>
-    requires { All RowsAscend images.now }
+// Turns an image, and lets it be seen in a window.
+fn place(image: &mut PageImage, word: &str, window: Window)
+    requires { is_roll_window window ≡ true }
 {
-    let mut list = Vec::new(alloc);
-    for image in images {
-        let (turn, corner) = turned(turn, image.corner);
-        list.push(PlacedImage {
-            image,
-            corner,
-            turn,
-            window,
-            before: 4,
-        })?;
-    }
-    Ok(list)
+    let frame = image.frame;
+    let corner = Place {
+        x: frame.ax,
+        y: frame.ay,
+    };
+    let (turn, corner) = turned(word, corner);
+    image.turn = turn;
+    image.frame = Stroke {
+        window,
+        ax: corner.x,
+        ay: corner.y,
+        ..frame
+    };
 }
 
 // A colour of a text as a cell has it, or the stroke of a column.
@@ -129,17 +126,26 @@ fn is_painted(
     text: &str,
     window: Window,
     wanted: &str,
-) -> Result<(), Fail> {
+) -> Result<(), Fail>
+    requires { is_roll_window window ≡ true }
+{
     let bytes = bytes_of(alloc, text)?;
     let mut machine = Machine::new(alloc);
     let mut did = String::new(alloc);
     run(alloc, &mut machine, bytes.as_slice(), &mut did)?;
-    let images = placed(alloc, machine.images(), turn, window)?;
     let page = Page::new(64, 64, 0, 0)?;
+    let mut list = images_of(alloc, &mut machine, &page, 4)?;
+    for image in list.iter_mut() {
+        place(image, turn, window);
+    }
     let dots = Dots::new(127).ok_or("no resolution")?;
     for row in 0..dots.rows(&page) {
         let mut cells: [u32; 8] = [0, 1, 2, 3, 4, 5, 6, 7];
-        paint_images(images.as_slice(), &page, dots, row, &mut cells);
+        let images = PageImages {
+            list: list.as_slice(),
+            first: 0,
+        };
+        paint_images(images, &page, dots, row, &mut cells);
         assert!(rt;
             cells_wanted(alloc, row, wanted)?.as_slice() == cells.as_slice(),
             "{turn} {text}, row {row}"

@@ -24,6 +24,8 @@ mod images_made;
 #[cfg(test)]
 mod images_painted;
 #[cfg(test)]
+mod images_pictured;
+#[cfg(test)]
 mod item_cases;
 #[cfg(test)]
 mod items;

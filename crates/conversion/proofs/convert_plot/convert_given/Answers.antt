@@ -1,5 +1,5 @@
 use Rattle.std.proofs.Common.{Result, Ok, Err, refl, sym, ap, subst, arith}
-use Rattle.areas.specs.Views.{shapes_in}
+use Rattle.rows.specs.Contents.{contents_in}
 use Rattle.conversion.specs.Conversions.{HasConvertedBy}
 use Rattle.conversion.specs.Rules.{rules_in, rules_of}
 use Rattle.conversion.specs.declared.done.Done.{Done}
@@ -32,8 +32,8 @@ returns-in-Ok-clause-converts g c =
     let is = g.S.Source.state c.draw.new.source in
     let drawn = drawn_so c.args.reading c.empty.result _ c.args.job.now reaches was is c.empty.ensures c.in_ok-request.request.setup c.in_ok-request.request.picture.now _
     (ap rules_in made.setup) (ap (λ s. s.choice) made.setup) (ap (λ s. s.turn) made.setup) shown c.in_ok-drawing.ensures.draws in
-    converted_given c.args.reading c.empty.result c.all-rows.result c.args.job.now reaches was is c.empty.ensures _ _ _ _ c.in_ok-drawing.drawing (shapes_in c.shapes_on.result) (Ok c.in-Ok.outcome)
-    (ap (λ s. s.times) c.all-rows.ensures.smoothing) c.all-rows.ensures.rows drawn c.shapes_on.ensures.shapes c.in-Ok.ensures.writes c.in-Ok.ensures.tests
+    converted_given c.args.reading c.empty.result c.all-rows.result c.args.job.now reaches was is c.empty.ensures _ _ _ _ c.in_ok-drawing.drawing (contents_in c.contents_on.result) (Ok c.in-Ok.outcome)
+    (ap (λ s. s.times) c.all-rows.ensures.smoothing) c.all-rows.ensures.rows drawn c.contents_on.ensures.contents c.in-Ok.ensures.writes c.in-Ok.ensures.tests
 
 pub returns-clause-converts : goal.returns-clause-converts
 returns-clause-converts g c =
@@ -44,5 +44,5 @@ returns-clause-converts g c =
     let is = g.S.Source.state c.draw.new.source in
     let drawn = drawn_so c.args.reading c.empty.result _ c.args.job.now reaches was is c.empty.ensures c.in_ok-request.request.setup c.in_ok-request.request.picture.now _
     (ap rules_in made.setup) (ap (λ s. s.choice) made.setup) (ap (λ s. s.turn) made.setup) shown c.in_ok-drawing.ensures.draws in
-    converted_given c.args.reading c.empty.result c.all-rows.result c.args.job.now reaches was is c.empty.ensures _ _ _ _ c.in_ok-drawing.drawing (shapes_in c.shapes_on.result) (Err c.in-Err.fault)
-    (ap (λ s. s.times) c.all-rows.ensures.smoothing) c.all-rows.ensures.rows drawn c.shapes_on.ensures.shapes c.in-Err.ensures.writes c.in-Err.ensures.tests
+    converted_given c.args.reading c.empty.result c.all-rows.result c.args.job.now reaches was is c.empty.ensures _ _ _ _ c.in_ok-drawing.drawing (contents_in c.contents_on.result) (Err c.in-Err.fault)
+    (ap (λ s. s.times) c.all-rows.ensures.smoothing) c.all-rows.ensures.rows drawn c.contents_on.ensures.contents c.in-Err.ensures.writes c.in-Err.ensures.tests

@@ -1,5 +1,5 @@
 use Rattle.std.proofs.Common.{◌≤◌, ◌+◌, subst, sym}
-use Rattle.areas.specs.Shapes.{ShapeList}
+use Rattle.rows.specs.Contents.{ContentList}
 use Rattle.picture_job.specs.declared.picture.Picture.{Picture}
 use Rattle.rows.specs.Boxes.{strip_boxes}
 use Rattle.conversion.specs.PageJobs.{on_page, times_on}
@@ -12,5 +12,5 @@ returns-in-Rows-clause-tests g c =
     let choice = c.args.request.now.setup.choice in
     let before = g.G.Gauge.count c.args.gauge.now in
     let after = g.G.Gauge.count c.write_shapes-outcome.new.gauge in
-    let tests = subst (λ (ss : ShapeList). after ≤ before + strip_boxes (times_on choice drawing.page c.in-Rows.job c.in-Rows.rows.smoothing) c.in-Rows.rows.most_rows (on_page choice drawing.page c.in-Rows.job) ss.strokes) c.shapes_on.ensures.shapes c.write_shapes-outcome.ensures.tests in
+    let tests = subst (λ (ss : ContentList). after ≤ before + strip_boxes (times_on choice drawing.page c.in-Rows.job c.in-Rows.rows.smoothing) c.in-Rows.rows.most_rows (on_page choice drawing.page c.in-Rows.job) ss.shapes.strokes) c.contents_on.ensures.contents c.write_shapes-outcome.ensures.tests in
     subst (λ (picture : Picture). after ≤ before + most_tests choice picture drawing c.args.sheet) (sym c.in-Rows.is) tests

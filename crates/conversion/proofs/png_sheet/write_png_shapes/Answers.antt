@@ -16,9 +16,9 @@ boxes_same ss ej = cc
 pub returns-in-Ok-clause-tests : goal.returns-in-Ok-clause-tests
 returns-in-Ok-clause-tests g c =
     subst (λ (k : ℕ). g.G.Gauge.count c.paint_png-sink.new.gauge ≤ g.G.Gauge.count c.args.gauge.now + k)
-    (boxes_same c.args.shown.shapes.strokes.now c.png_on_page-job.ensures) c.paint_png-sink.ensures.tests
+    (boxes_same c.args.shown.contents.shapes.strokes.now c.png_on_page-job.ensures) c.paint_png-sink.ensures.tests
 
 pub returns-in-Err-clause-tests : goal.returns-in-Err-clause-tests
 returns-in-Err-clause-tests g c =
     subst (λ (k : ℕ). g.G.Gauge.count c.paint_png-sink.new.gauge ≤ g.G.Gauge.count c.args.gauge.now + k)
-    (boxes_same c.args.shown.shapes.strokes.now c.png_on_page-job.ensures) c.paint_png-sink.ensures.tests
+    (boxes_same c.args.shown.contents.shapes.strokes.now c.png_on_page-job.ensures) c.paint_png-sink.ensures.tests

@@ -18,9 +18,9 @@ boxes_same most ss et ej = cc
 pub returns-in-Err-clause-tests : goal.returns-in-Err-clause-tests
 returns-in-Err-clause-tests g c =
     subst (λ (k : ℕ). g.G.Gauge.count c.paint.new.gauge ≤ g.G.Gauge.count c.args.gauge.now + k)
-    (boxes_same c.args.rows.most_rows c.args.shown.shapes.strokes.now c.smoothing_on.ensures c.on_page-job.ensures) c.paint.ensures.tests
+    (boxes_same c.args.rows.most_rows c.args.shown.contents.shapes.strokes.now c.smoothing_on.ensures c.on_page-job.ensures) c.paint.ensures.tests
 
 pub returns-clause-tests : goal.returns-clause-tests
 returns-clause-tests g c =
     subst (λ (k : ℕ). g.G.Gauge.count c.paint.new.gauge ≤ g.G.Gauge.count c.args.gauge.now + k)
-    (boxes_same c.args.rows.most_rows c.args.shown.shapes.strokes.now c.smoothing_on.ensures c.on_page-job.ensures) c.paint.ensures.tests
+    (boxes_same c.args.rows.most_rows c.args.shown.contents.shapes.strokes.now c.smoothing_on.ensures c.on_page-job.ensures) c.paint.ensures.tests

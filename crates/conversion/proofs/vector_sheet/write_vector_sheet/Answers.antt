@@ -1,5 +1,6 @@
-use Rattle.std.proofs.Common.{Err, Ok, ap, rules, subst}
-use Rattle.areas.specs.Shapes.{ShapeList}
+use Rattle.std.proofs.Common.{Err, Ok, ap, rules, subst, ◌∙◌}
+use Rattle.rows.specs.Contents.{ContentList}
+use Rattle.conversion.specs.Rules.{ends_of}
 use Rattle.conversion.specs.Sheets.{TellsOf}
 use Rattle.conversion.proofs.Vectors.{fault_again, never_letters, no_fault, puts_same, same_fault, same_letters}
 use Rattle.conversion.proofs.vector_sheet.write_vector_sheet.Goals as goal
@@ -8,19 +9,21 @@ use Rattle.conversion.proofs.vector_sheet.write_vector_sheet.Goals.{in-Svg+in_ok
 pub returns-clause-writes : goal.returns-clause-writes
 returns-clause-writes g c =
     let drawing = c.args.drawing.now in
-    let shapes = c.shapes_on-shapes.ensures.shapes in
+    let contents = c.contents_on-contents.ensures.contents in
+    let ends = c.ends_in-ends.ensures ∙ ap (ends_of c.args.sheet) c.as_slice.ensures.value in
+    let image_ends = c.ends_in-image_ends.ensures ∙ ap (ends_of c.args.sheet) c.as_slice-2.ensures.value in
     let labels = c.labels_written-before.ensures in
     record {
       puts = elim c.match-job.branch [
         | in-Svg+in_ok-put_svg-in-Svg w ↦
-            puts_same c.outcome_of.result w.in_ok-put_svg-in-Svg.field-0 c.args.job.now.format _ c.args.naming drawing.page c.args.job.now.pens _ _ _ _ _ _ _ _ _
-            w.in-Svg.is shapes c.ends_in-ends.ensures labels (ap g.K.Sink.state w.sink-is) w.in_ok-put_svg-in-Svg.ensures.puts
+            puts_same c.outcome_of.result w.in_ok-put_svg-in-Svg.field-0 c.args.job.now.format _ c.args.naming drawing.page c.args.job.now.pens _ _ _ _ _ _ _ _ _ _ _
+            w.in-Svg.is contents ends image_ends labels (ap g.K.Sink.state w.sink-is) w.in_ok-put_svg-in-Svg.ensures.puts
         | in-Pdf+in_ok-put_pdf-in-Pdf w ↦
-            puts_same c.outcome_of.result w.in_ok-put_pdf-in-Pdf.field-0 c.args.job.now.format _ c.args.naming drawing.page c.args.job.now.pens _ _ _ _ _ _ _ _ _
-            w.in-Pdf.is shapes c.ends_in-ends.ensures labels (ap g.K.Sink.state w.sink-is) w.in_ok-put_pdf-in-Pdf.ensures.puts
+            puts_same c.outcome_of.result w.in_ok-put_pdf-in-Pdf.field-0 c.args.job.now.format _ c.args.naming drawing.page c.args.job.now.pens _ _ _ _ _ _ _ _ _ _ _
+            w.in-Pdf.is contents ends image_ends labels (ap g.K.Sink.state w.sink-is) w.in_ok-put_pdf-in-Pdf.ensures.puts
         | in-Dxf+in_ok-put_dxf-in-Dxf w ↦
-            puts_same c.outcome_of.result w.in_ok-put_dxf-in-Dxf.field-0 c.args.job.now.format _ c.args.naming drawing.page c.args.job.now.pens _ _ _ _ _ _ _ _ _
-            w.in-Dxf.is shapes c.ends_in-ends.ensures labels (ap g.K.Sink.state w.sink-is) w.in_ok-put_dxf-in-Dxf.ensures.puts
+            puts_same c.outcome_of.result w.in_ok-put_dxf-in-Dxf.field-0 c.args.job.now.format _ c.args.naming drawing.page c.args.job.now.pens _ _ _ _ _ _ _ _ _ _ _
+            w.in-Dxf.is contents ends image_ends labels (ap g.K.Sink.state w.sink-is) w.in_ok-put_dxf-in-Dxf.ensures.puts
       ];
       letters = elim c.match-job.branch [
         | in-Svg+in_ok-put_svg-in-Svg w ↦
@@ -34,7 +37,7 @@ returns-clause-writes g c =
       ];
       rows = c.outcome_of.ensures.rows;
       bytes = c.outcome_of.ensures.bytes;
-      tells = subst (λ (s : ShapeList). TellsOf drawing c.args.job.now.pens s c.outcome_of.result) shapes c.outcome_of.ensures.tells;
+      tells = subst (λ (s : ContentList). TellsOf drawing c.args.job.now.pens s c.outcome_of.result) contents c.outcome_of.ensures.tells;
     }
 
 pub returns-in_err-put_svg-in-Svg-clause-writes : goal.returns-in_err-put_svg-in-Svg-clause-writes

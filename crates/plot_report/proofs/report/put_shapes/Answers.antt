@@ -15,4 +15,4 @@ returns g c =
     let summaries = c.summarise-summaries in
     let counted = puts_as c.put_strokes_line.ensures.puts (ap (λ (n : ℕ). line (codes "strokes" ∷ decimal n ∷ [])) summaries.ensures.strokes) in
     let have_areas = puts_as c.put_areas.ensures.puts (ap areas_line (c.count.ensures ∙ sym (areas_are_counted strokes areas))) in
-    record { puts = puts_as (counted then have_areas then c.put_pen_lines.ensures.puts) (lines_of_shapes summaries.result all summaries.ensures) }
+    record { puts = puts_as (counted then have_areas then c.put_image_count.ensures.puts then c.put_pen_lines.ensures.puts) (lines_of_shapes c.args.images summaries.result all summaries.ensures) }

@@ -1,5 +1,4 @@
 use Rattle.std.proofs.Common.{◌≡◌, length}
-use Rattle.stroke_raster.specs.Bands.{rows_of_band}
 use Rattle.smoothing.specs.Cells.{colours_of_cells}
 use Rattle.smoothing.specs.Totals.{HaveRows}
 use Rattle.smoothing.proofs.smooth_row.add_rows.Given as goal
@@ -8,5 +7,5 @@ use Rattle.smoothing.proofs.smooth_row.add_rows.Given as goal
 abbrev pub invariant-loop-k : goal.invariant-loop-k
 invariant-loop-k g l = record {
   size : length l.sums ≡ length l.fn.sums;
-  rows : HaveRows l.times (colours_of_cells (g.I.Inks.inks l.inks) (rows_of_band l.band)) l.i l.k l.sums;
+  rows : HaveRows l.times (colours_of_cells (g.I.Inks.inks l.inks) (g.R.FinerRows.finer l.rows)) l.i l.k l.sums;
 }

@@ -8,7 +8,7 @@ use Rattle.svg.proofs.document.put_all_sheets.Goals as goal
 pub returns : goal.returns
 returns g c =
     let start = puts_as c.put_start.ensures.puts (ap (λ (rs : List Rectangle). head_text c.args.view.now.page.now ++ clips_text rs) c.requires.clips) in
-    let puts = start then c.put_sheets.ensures.puts then c.put.ensures.puts in
+    let puts = start then c.put_shown_sheets.ensures.puts then c.put.ensures.puts in
     record {
       same = c.finish.ensures.same ∙ puts.same;
       writes = written g.K.Sink.state c.args.text.now c.put.new.self _ _ c.finish.result c.requires.new puts c.finish.ensures.finishes;

@@ -1,4 +1,4 @@
-use Rattle.std.proofs.Common.{◌≡◌, ◌<◌, ◌≤◌, ◌*◌, ℕ, List, cond, map, min, nat_lt, ap, ap₂, sym, subst, ◌∙◌, arith}
+use Rattle.std.proofs.Common.{◌≡◌, ◌≤◌, ◌*◌, ℕ, List, cond, map, min, nat_lt, refl, ap, ap₂, sym, subst, ◌∙◌, arith}
 use Rattle.std.specs.List.{range_with_len}
 use Rattle.std.proofs.Math.Nat.{mul-le-mul_left}
 use Rattle.smoothing.specs.Smoothings.{smoothed}
@@ -95,3 +95,20 @@ returns-clause-tests c =
     let stops : cond (nat_lt end c.rows-rows.result) (n * end) p.end ≡ finer_end n scene.page scene.dots end = ap₂ (λ (rows finer_rows : ℕ). cond (nat_lt end rows) (n * end) finer_rows) c.rows-rows.ensures.count all in
     ap tests_left c.stop_before.ensures
     ∙ tests_are (record p { end = cond (nat_lt end c.rows-rows.result) (n * end) p.end }) scene.pens scene.shapes.strokes.now scene.page fine _ (finer_end n scene.page scene.dots end) made.strokes made.page dots made.pens first stops
+
+pub returns-clause-made : goal.returns-clause-made
+returns-clause-made c =
+    let made = c.in-Ok.ensures in
+    let n = c.args.ask.times in
+    let p : Painting = c.in-Ok.painter in
+    let fine = finer n c.args.scene.dots in
+    let dots : p.dots ≡ fine = made.dots ∙ finer_is n c.args.scene.dots _ (ap (λ (k : ℕ). n * k) c.per_inch.ensures) c.requires.ask.least c.requires.ask.fine in
+    let is = c.stop_before.ensures in
+    record {
+      shapes = ap painting_shapes is ∙ list_is p (shapes_in c.args.scene.shapes) made.strokes made.areas;
+      pens = ap (λ (z : Painting). z.pens) is ∙ made.pens;
+      page = ap (λ (z : Painting). z.page) is ∙ made.page;
+      dots = ap (λ (z : Painting). z.dots) is ∙ dots;
+      times = refl;
+      columns = c.in-Ok-new.ensures.width ∙ c.columns-columns.ensures.count;
+    }

@@ -1,0 +1,2 @@
+-- What functions of strokes say of a frame.
+pub mod Frames

@@ -1,0 +1,3 @@
+-- How images reach.
+pub mod Counted
+pub mod Rows
