@@ -20,6 +20,8 @@ mod fine;
 #[cfg(test)]
 mod gauges;
 #[cfg(test)]
+mod images_drawn;
+#[cfg(test)]
 mod large_pictures;
 #[cfg(test)]
 mod lexed;

@@ -83,7 +83,7 @@ fn request<'a>(
 }
 
 // The contract of this function promises nothing: a test looks at the bytes.
-fn written(alloc: Global, plot: &[u8], turn: Turn) -> Result<Vec<u8>, Fail> {
+pub fn written(alloc: Global, plot: &[u8], turn: Turn) -> Result<Vec<u8>, Fail> {
     let picture = picture()?;
     let carousel = Carousel::empty();
     let request = request(&picture, &carousel, turn)?;
@@ -111,7 +111,7 @@ fn lines_turned_with_their_page(rt: HostRuntime) -> Result<(), Fail> {
 }
 
 // Whether what a plot draws can be turned.
-fn can_be_turned(alloc: Global, plot: &[u8], turn: Turn) -> Result<bool, Fail> {
+pub fn can_be_turned(alloc: Global, plot: &[u8], turn: Turn) -> Result<bool, Fail> {
     match drawn(alloc, plot, turn, &picture()?)? {
         Ok(_) => Ok(true),
         Err(Fault::Unturned) => Ok(false),
